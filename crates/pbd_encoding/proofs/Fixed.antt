@@ -17,7 +17,7 @@ use Rattle.pbd_log.specs.Entries.{number_bytes}
 use Rattle.pbd_encoding.specs.Scene.{listed, settings_of, scene_head_bytes, weight_bytes, kind_number, link_bytes, key_bytes, track_bytes}
 use Rattle.pbd_encoding.specs.Scene.{shape_bytes, scene_bytes}
 use Rattle.pbd_encoding.proofs.Texts.{Tells, both_tell, tells_so, number_tells, byte_tells, signed_tells, vector_tells, sum_tells}
-use Rattle.pbd_encoding.proofs.Texts.{list_tells, items_tell}
+use Rattle.pbd_encoding.proofs.Texts.{told_last, list_tells, items_tell}
 use Rattle.pbd_encoding.proofs.Fitting.{WeightFits, LinkFits, KeyFits, TrackFits, FixedFit, fixed_fit}
 use Rattle.pbd_encoding.proofs.Shapes.{shapes_tell}
 
@@ -101,16 +101,17 @@ track_tells t u f g =
 
 -- ---- all of it
 
-scene_tells : (v w : World) → FixedFit v → FixedFit w → Tells (scene_bytes v) (scene_bytes w) (AreOfOneScene v w)
+scene_tells : (v w : World) → FixedFit v → FixedFit w → scene_bytes v ≡ scene_bytes w → AreOfOneScene v w
 unfolding scene_bytes
-scene_tells v w f g =
+scene_tells v w f g h =
     let head = head_tells v w f g in
     let weights = list_tells {A = Particle} weight_bytes (λ p. blank p) WeightFits v.particles w.particles weight_tells f.weights g.weights
     in
     let links = list_tells {A = Link} link_bytes (λ l. unlive l) LinkFits v.links w.links link_tells f.links g.links in
     let tracks = items_tell track_bytes TrackFits v.tracks w.tracks track_tells f.tracks g.tracks in
     let shapes = shapes_tell v.shapes w.shapes f.shapes g.shapes in
-    tells_so (both_tell (both_tell (both_tell (both_tell head weights) links) tracks) shapes) (λ e i. record {
+    let e = told_last (both_tell (both_tell (both_tell head weights) links) tracks) shapes h in
+    λ i. record {
       limit = (e.0.0.0.0.settings i).limit;
       steps = 0;
       particles = e.0.0.0.1 i;
@@ -125,10 +126,10 @@ scene_tells v w f g =
       contacts = 0;
       totals = zero_totals;
       opening = e.0.0.0.0.opening i;
-    })
+    }
 
 pub scenes_differ : (v w : World) → IsSound v → IsSound w → scene_bytes v ≡ scene_bytes w → AreOfOneScene v w
-scenes_differ v w sv sw h = ((scene_tells v w (fixed_fit v sv) (fixed_fit w sw)).reads [] [] (ap (λ (t : List ℕ). t ++ []) h)).0
+scenes_differ v w sv sw = scene_tells v w (fixed_fit v sv) (fixed_fit w sw)
 
 -- ---- worlds of one scene
 

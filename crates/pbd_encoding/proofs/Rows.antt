@@ -11,7 +11,7 @@ use Rattle.pbd_encoding.specs.Form.{is_foreign}
 use Rattle.pbd_encoding.specs.Scene.{scene_head_bytes, link_bytes, key_bytes, plane_bytes, sphere_bytes, shape_bytes, scene_bytes}
 
 -- n bytes of one value
-abbrev many : ℕ → ℕ → List ℕ
+abbrev pub many : ℕ → ℕ → List ℕ
 many zero byte = []
 many (suc n) byte = byte ∷ many n byte
 

@@ -1,5 +1,5 @@
 -- Valid shapes fit their bytes, and the bytes tell them.
-use Rattle.std.proofs.Common.{◌≡◌, ℕ, ◌≤◌, ◌^◌, arith, ℤ, pos, ◌+ℤ◌, ◌-ℤ◌, unsigned_abs}
+use Rattle.std.proofs.Common.{◌≡◌, refl, ℕ, ◌≤◌, ◌^◌, List, [], ◌∷◌, ◌++◌, arith, ℤ, pos, neg_ℤ, ◌+ℤ◌, ◌-ℤ◌, unsigned_abs}
 use Rattle.std.specs.Prelude.{IsTrue, FitsSigned}
 use Rattle.std.specs.Int.{w64}
 use Rattle.std.proofs.lemmas.Int.{ints}
@@ -10,12 +10,13 @@ use Rattle.pbd_num.proofs.Sizes.{fits, size_above, size_below, size_le}
 use Rattle.pbd_world.specs.declared.parts.Plane.{Plane}
 use Rattle.pbd_world.specs.declared.parts.Sphere.{Sphere}
 use Rattle.pbd_world.specs.declared.parts.ShapeLists.{ShapeLists}
-use Rattle.pbd_world.specs.Shapes.{is_valid_plane, are_valid_planes, is_valid_sphere, are_valid_spheres, are_valid_shapes}
+use Rattle.pbd_world.specs.Shapes.{no_shapes, is_valid_plane, are_valid_planes, is_valid_sphere, are_valid_spheres, are_valid_shapes}
 use Rattle.pbd_world.proofs.KeptLemmas.{IsLimit}
-use Rattle.pbd_log.specs.Entries.{VectorFits}
-use Rattle.pbd_encoding.specs.Scene.{plane_bytes, sphere_bytes, shape_bytes}
+use Rattle.pbd_log.specs.Entries.{number_bytes, signed_bytes, vector_bytes, VectorFits}
+use Rattle.pbd_encoding.specs.Scene.{plane_bytes, sphere_bytes, AreFewShapes, shape_bytes}
+use Rattle.pbd_encoding.proofs.Rows.{many}
 use Rattle.pbd_encoding.proofs.Ranges.{vector_fits, few_from}
-use Rattle.pbd_encoding.proofs.Texts.{Tells, both_tell, tells_so, signed_tells, vector_tells, items_tell, AreFew}
+use Rattle.pbd_encoding.proofs.Texts.{Tells, both_tell, tells_so, told_alone, signed_tells, vector_tells, items_tell, AreFew}
 
 -- ---- in their ranges
 
@@ -73,6 +74,9 @@ shapes_fit limit lists lim h =
       spheres = few_from 256 (is_valid_sphere limit) SphereFits lists.spheres (omega arith) (λ s v. sphere_fits limit s lim v) p.1;
     }
 
+pub few_shapes : (lists : ShapeLists) → ShapesFit lists → AreFewShapes lists
+few_shapes lists f = (f.planes.few, f.spheres.few)
+
 -- ---- what they tell
 
 plane_tells : (p q : Plane) → PlaneFits p → PlaneFits q → Tells (plane_bytes p) (plane_bytes q) (p ≡ q)
@@ -87,9 +91,20 @@ sphere_tells s t f g =
     tells_so (both_tell (vector_tells s.centre t.centre f.centre g.centre) (signed_tells s.radius t.radius f.radius g.radius))
     (λ e i. record { centre = e.0 i; radius = e.1 i })
 
-pub shapes_tell : (a b : ShapeLists) → ShapesFit a → ShapesFit b → Tells (shape_bytes a) (shape_bytes b) (a ≡ b)
+-- they stand last
+pub shapes_tell : (a b : ShapeLists) → ShapesFit a → ShapesFit b → shape_bytes a ≡ shape_bytes b → a ≡ b
 unfolding shape_bytes
-shapes_tell a b f g =
+shapes_tell a b f g e =
     let planes = items_tell plane_bytes PlaneFits a.planes b.planes plane_tells f.planes g.planes in
     let spheres = items_tell sphere_bytes SphereFits a.spheres b.spheres sphere_tells f.spheres g.spheres in
-    tells_so (both_tell planes spheres) (λ e i. record { planes = e.0 i; spheres = e.1 i })
+    let p = told_alone (both_tell planes spheres) e in
+    λ i. record { planes = p.0 i; spheres = p.1 i }
+
+-- ---- worked rows
+
+-- no plane, and a sphere
+sphere_row : shape_bytes (record no_shapes { spheres = record { centre = record { x = pos 1; y = neg_ℤ (pos 2); z = pos 0 }; radius = pos 258 } ∷ [] })
+    ≡ many 4 0
+    ++ 0 ∷ 0 ∷ 0 ∷ 1 ∷ [] ++ many 7 0 ++ 1 ∷ [] ++ many 7 255 ++ 254 ∷ [] ++ many 8 0 ++ many 6 0 ++ 1 ∷ 2 ∷ []
+unfolding shape_bytes plane_bytes sphere_bytes vector_bytes signed_bytes number_bytes
+sphere_row = refl

@@ -35,6 +35,13 @@ both_tell first second = then_tells first (λ p. second)
 pub tells_so : {a b : List ℕ} {P Q : Type 0} → Tells a b P → (P → Q) → Tells a b Q
 tells_so tells so = record { reads = λ r s h. let p = tells.reads r s h in (so p.0, p.1) }
 
+-- what is told where nothing follows, and behind a text that tells its own whatever follows it
+pub told_alone : {a b : List ℕ} {P : Type 0} → Tells a b P → a ≡ b → P
+told_alone tells e = (tells.reads [] [] (ap (λ (t : List ℕ). t ++ []) e)).0
+
+pub told_last : {a b c d : List ℕ} {P Q : Type 0} → Tells a b P → (c ≡ d → Q) → a ++ c ≡ b ++ d → P × Q
+told_last {a} {b} {c} {d} first last e = let p = first.reads c d e in (p.0, last p.1)
+
 -- ---- numbers
 
 pub number_tells : (n x y : ℕ) → x < 256 ^ n → y < 256 ^ n → Tells (number_bytes n x) (number_bytes n y) (x ≡ y)

@@ -1,5 +1,6 @@
 pub mod Encoding
 pub mod Scene
+pub mod Feeding
 pub mod Described
 pub mod Views
 pub mod Form

@@ -1,5 +1,5 @@
 -- The bytes of a scene: all of a world that no command changes, number by number.
-use Rattle.std.specs.Prelude.{ℕ, List, [], ◌∷◌, ◌++◌, length}
+use Rattle.std.specs.Prelude.{ℕ, ◌<◌, ◌^◌, List, [], ◌∷◌, ◌++◌, length}
 use Rattle.std.specs.List.{flat_map}
 use Rattle.pbd_world.specs.declared.parts.Particle.{Particle}
 use Rattle.pbd_world.specs.declared.parts.Link.{Link}
@@ -57,6 +57,10 @@ plane_bytes plane = vector_bytes plane.normal ++ signed_bytes plane.offset
 
 unfoldable pub sphere_bytes : Sphere → List ℕ
 sphere_bytes sphere = vector_bytes sphere.centre ++ signed_bytes sphere.radius
+
+-- four bytes can count the shapes of each kind
+abbrev pub AreFewShapes : ShapeLists → Type 0
+AreFewShapes lists = (length lists.planes < 2 ^ 32) × (length lists.spheres < 2 ^ 32)
 
 -- the planes, then the spheres
 unfoldable pub shape_bytes : ShapeLists → List ℕ

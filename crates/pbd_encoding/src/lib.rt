@@ -14,5 +14,5 @@ pub use laws::{
     what_is_told_is_written, what_is_written_is_told,
 };
 pub use pieces::{first_totals, flag, header, last_totals, vector};
-pub use scene::{ScenePiece, Settings, number, scene_head};
+pub use scene::{ScenePiece, Settings, feed_all, feed_shapes, number, scene_head};
 pub use view::StateView;

@@ -1,14 +1,16 @@
-// The parts of a scene's bytes, each as a piece of at most 84 bytes.
-ghost use Rattle.std.specs.Prelude.{◌≡◌, ℕ, List, ◌+◌, ◌≤◌, ◌++◌, length};
+// The parts of a scene's bytes, each as a piece of at most 84 bytes, and how a hasher takes up many of them.
+ghost use Rattle.std.specs.Prelude.{◌≡◌, ℕ, List, ◌+◌, ◌<◌, ◌≤◌, ◌^◌, ◌++◌, length};
 ghost use Rattle.pbd_world.specs.Ledger.{sum_of};
 ghost use Rattle.pbd_log.specs.Entries.{number_bytes, signed_bytes};
-ghost use Rattle.pbd_encoding.specs.Scene.{kind_number, weight_bytes, link_bytes, key_bytes, plane_bytes, sphere_bytes, scene_head_bytes};
+ghost use Rattle.pbd_encoding.specs.Scene.{listed, kind_number, weight_bytes, link_bytes, key_bytes, plane_bytes, sphere_bytes, AreFewShapes, shape_bytes, scene_head_bytes};
+ghost use Rattle.pbd_encoding.specs.Feeding.{Fed};
 
 use crate::pieces::push_sum;
 use byteorder::{BigEndian, ByteOrder};
 use pbd_line::Line;
 use pbd_log::{push_byte, push_u32, push_u64, push_vector};
-use pbd_world::{Key, Kind, Link, Particle, Plane, Sphere};
+use pbd_world::{Key, Kind, Link, Particle, Plane, ShapeLists, Sphere};
+use sha2::{Digest, Sha256};
 
 /// The numbers that a scene sets for all its steps.
 #[derive(Clone, Copy)]
@@ -149,4 +151,27 @@ impl ScenePiece for Sphere {
         push_axis(&mut piece, self.radius);
         piece
     }
+}
+
+/// Feeds how many items there are, and each.
+pub fn feed_all<T: ScenePiece>(hasher: &mut Sha256, items: &[T])
+    requires { length items.now < 2 ^ 32 }
+    ensures { Fed hasher.old hasher.new (listed T.spelled items.now) }
+{
+    let count = number(items.len() as u32);
+    hasher.update(count.as_slice());
+    for item in items {
+        let piece = item.piece();
+        hasher.update(piece.as_slice());
+    }
+}
+
+/// Feeds the shapes of each kind: how many there are, and each.
+#[tactic(auto, unfolding(crate::specs::Scene::shape_bytes))]
+pub fn feed_shapes(hasher: &mut Sha256, shapes: &ShapeLists)
+    requires { AreFewShapes shapes.now }
+    ensures { Fed hasher.old hasher.new (shape_bytes shapes.now) }
+{
+    feed_all(hasher, shapes.planes.as_slice());
+    feed_all(hasher, shapes.spheres.as_slice());
 }

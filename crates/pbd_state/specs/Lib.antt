@@ -1,5 +1,4 @@
 pub mod Fields
-pub mod Feeding
 pub mod Naming
 pub mod Checksum
 pub mod Reading

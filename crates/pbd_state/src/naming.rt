@@ -1,10 +1,10 @@
 // The name of a scene.
 ghost use Rattle.std.specs.Prelude.{◌≡◌, ◌+◌, ◌<◌, ◌≤◌, ◌^◌, length};
-ghost use Rattle.pbd_encoding.specs.Scene.{listed, settings_of, weight_bytes, track_bytes, shape_bytes};
-ghost use Rattle.pbd_state.specs.Feeding.{Fed};
+ghost use Rattle.pbd_encoding.specs.Scene.{listed, settings_of, weight_bytes, track_bytes};
+ghost use Rattle.pbd_encoding.specs.Feeding.{Fed};
 ghost use Rattle.pbd_state.specs.Naming.{scene_name as name_of, HaveFewKeys};
 
-use pbd_encoding::{ScenePiece, Settings, number, scene_head};
+use pbd_encoding::{ScenePiece, Settings, feed_all, feed_shapes, number, scene_head};
 use pbd_step::Shown;
 use pbd_store::Steps;
 use pbd_world::Track;
@@ -22,19 +22,6 @@ fn settings_of<const L: usize>(shown: &Shown<'_, L>) -> Settings
         damping: shown.damping(),
         thickness: shown.thickness(),
         friction: shown.friction(),
-    }
-}
-
-/// Feeds how many items there are, and each.
-fn feed_all<T: ScenePiece>(hasher: &mut Sha256, items: &[T])
-    requires { length items.now < 2 ^ 32 }
-    ensures { Fed hasher.old hasher.new (listed T.spelled items.now) }
-{
-    let count = number(items.len() as u32);
-    hasher.update(count.as_slice());
-    for item in items {
-        let piece = item.piece();
-        hasher.update(piece.as_slice());
     }
 }
 
@@ -80,17 +67,6 @@ fn feed_tracks(hasher: &mut Sha256, tracks: &[Track])
     }
 }
 
-/// Feeds the shapes of each kind: how many there are, and each.
-#[tactic(auto, using(crate::proofs::Feeding::few_shapes), unfolding(pbd_encoding::specs::Scene::shape_bytes))]
-fn feed_shapes<const L: usize>(hasher: &mut Sha256, shown: &Shown<'_, L>)
-    requires lanes { L ≤ 16 }
-    ensures { Fed hasher.old hasher.new (shape_bytes shown.now.shapes) }
-{
-    let shapes = shown.shapes();
-    feed_all(hasher, shapes.planes.as_slice());
-    feed_all(hasher, shapes.spheres.as_slice());
-}
-
 /// The name of a world's scene: the SHA-256 digest of all that no command changes. So worlds of one scene have one name, and
 /// the bytes that are hashed tell scenes apart. They are fed piece by piece, which takes no memory.
 pub fn scene_name<const L: usize, G: Ledger>(shown: &Shown<'_, L>, steps: &mut Steps<G>) -> [u8; 32]
@@ -104,6 +80,6 @@ pub fn scene_name<const L: usize, G: Ledger>(shown: &Shown<'_, L>, steps: &mut S
     feed_weights(&mut hasher, shown, steps);
     feed_all(&mut hasher, shown.links());
     feed_tracks(&mut hasher, shown.tracks());
-    feed_shapes(&mut hasher, shown);
+    feed_shapes(&mut hasher, shown.shapes());
     hasher.finalize()
 }

@@ -2,7 +2,7 @@ use Rattle.std.proofs.Common.{◌++◌, length, take}
 use Rattle.std.specs.List.{flat_map}
 use Rattle.pbd_log.specs.Entries.{number_bytes}
 use Rattle.pbd_encoding.specs.Scene.{track_bytes}
-use Rattle.pbd_state.specs.Feeding.{Fed}
+use Rattle.pbd_encoding.specs.Feeding.{Fed}
 use Rattle.pbd_state.proofs.naming.feed_tracks.Given as goal
 
 -- how many tracks there are, and the tracks so far, were fed

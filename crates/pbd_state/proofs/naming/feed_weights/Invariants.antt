@@ -2,7 +2,7 @@ use Rattle.std.proofs.Common.{◌+◌, ◌≤◌, ◌++◌, length, take}
 use Rattle.std.specs.List.{flat_map}
 use Rattle.pbd_log.specs.Entries.{number_bytes}
 use Rattle.pbd_encoding.specs.Scene.{weight_bytes}
-use Rattle.pbd_state.specs.Feeding.{Fed}
+use Rattle.pbd_encoding.specs.Feeding.{Fed}
 use Rattle.pbd_state.proofs.naming.feed_weights.Given as goal
 
 -- how many particles there are, and the weights so far, were fed

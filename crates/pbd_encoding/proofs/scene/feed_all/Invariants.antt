@@ -1,8 +1,8 @@
 use Rattle.std.proofs.Common.{◌++◌, length, take}
 use Rattle.std.specs.List.{flat_map}
 use Rattle.pbd_log.specs.Entries.{number_bytes}
-use Rattle.pbd_state.specs.Feeding.{Fed}
-use Rattle.pbd_state.proofs.naming.feed_all.Given as goal
+use Rattle.pbd_encoding.specs.Feeding.{Fed}
+use Rattle.pbd_encoding.proofs.scene.feed_all.Given as goal
 
 -- how many items there are, and the items so far, were fed
 abbrev pub invariant-loop-item : goal.invariant-loop-item
