@@ -1,5 +1,5 @@
 -- The three axes of a vector or a sum, each a signed number of one width.
-use Rattle.std.proofs.Common.{ℕ, ◌*◌, ◌+◌, ◌^◌, ◌<◌, ℤ, List, ◌++◌, Fits}
+use Rattle.std.proofs.Common.{ℕ, ◌^◌, ◌<◌, ℤ, List, ◌++◌, Fits}
 use Rattle.std.specs.Int.{Width, w64, w128, cast_signed, cast_unsigned}
 use Rattle.pbd_log.specs.Entries.{number_bytes}
 use Rattle.pbd_encoding.specs.Described.{number_from}
