@@ -1,5 +1,5 @@
 -- The way of a place through the shapes, as the code holds it.
-use Rattle.std.specs.Prelude.{◌≡◌, ℤ, List, false, Some}
+use Rattle.std.specs.Prelude.{◌≡◌, ℕ, ◌<◌, ℤ, List, false, Some}
 use Rattle.pbd_num.specs.declared.Vec3.{Vec3}
 use Rattle.pbd_world.specs.Shapes.{Shape, Way, shapes_of, way_through}
 use Rattle.pbd_shape.specs.declared.shapes.Shapes.{Shapes}
@@ -20,3 +20,7 @@ starting at = record { at = at; touched = false }
 -- no shape touches a place
 abbrev pub IsStill : ℤ → List Shape → Vec3 → Type 0
 IsStill limit shapes at = way_through limit shapes (starting at) ≡ Some (starting at)
+
+-- no shape touches any of the first n places
+pub record AreStill (shapes : List Shape) (n : ℕ) (place : ℕ → Vec3) : Type 0 where
+  pub at : (limit : ℤ) (j : ℕ) → j < n → IsStill limit shapes (place j)

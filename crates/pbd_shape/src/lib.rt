@@ -1,4 +1,4 @@
-//! What planes and spheres do with particles, and friction.
+//! What shapes do with particles, and friction.
 #![tactic(auto)]
 
 mod book;

@@ -1,13 +1,13 @@
 // All shapes of a world as one value.
-ghost use Rattle.std.specs.Prelude.{◌≡◌, ℕ, ℤ, ◌<◌, ◌≤◌, ◌^◌, ◌==◌, false, length, unsigned_abs, option_map, IfSome};
+ghost use Rattle.std.specs.Prelude.{◌≡◌, ℕ, ◌<◌, ◌≤◌, ◌^◌, ◌==◌, false, length, unsigned_abs, option_map, IfSome};
 ghost use Rattle.pbd_num.specs.Vectors.{Within};
 ghost use Rattle.pbd_world.specs.Shapes.{way_through};
 ghost use Rattle.pbd_store.specs.Blocks.{place_of};
 ghost use Rattle.pbd_shape.specs.Valid.{lists_of, IsLimit, AreInRange};
-ghost use Rattle.pbd_shape.specs.Way.{way_of, all_shapes, starting, IsStill};
+ghost use Rattle.pbd_shape.specs.Way.{way_of, all_shapes, starting, AreStill};
 
-use crate::touch::any_touches;
-use crate::way::{Pushed, past_all};
+use crate::touch::{any_touches, then_touches};
+use crate::way::{Pushed, then_past};
 use pbd_num::Vec3;
 use pbd_store::Lanes3;
 use pbd_world::{Plane, ShapeLists, Sphere};
@@ -46,6 +46,7 @@ impl<'a> Shapes<'a> {
     }
 
     /// The way of a place through all shapes, and `None` where it leaves the limit.
+    #[tactic(auto, using(crate::proofs::Ways::then_through))]
     pub(crate) fn push(self, limit: i64, at: Vec3) -> Option<Pushed>
         requires limit { IsLimit limit }
         requires shapes { AreInRange self }
@@ -53,9 +54,9 @@ impl<'a> Shapes<'a> {
         ensures value { option_map way_of result ≡ way_through limit (all_shapes self.entry) (starting at) }
         ensures within { IfSome result (λ way. Within (unsigned_abs limit) way.at) }
     {
-        let start = Pushed { at, touched: false };
-        let way = past_all(limit, self.planes, start)?;
-        past_all(limit, self.spheres, way)
+        let start = Some(Pushed { at, touched: false });
+        let way = then_past(limit, start, self.planes);
+        then_past(limit, way, self.spheres)
     }
 
     /// Whether any shape touches any of L places where it lies. Where none does, none moves any of them.
@@ -63,9 +64,9 @@ impl<'a> Shapes<'a> {
         requires lanes { L ≤ 16 }
         requires shapes { AreInRange self }
         requires places { (j : ℕ) → j < L → Within (2 ^ 29) (place_of at.now.x at.now.y at.now.z j) }
-        ensures { result ≡ false → (limit : ℤ) (j : ℕ) → j < L
-            → IsStill limit (all_shapes self.entry) (place_of at.now.x at.now.y at.now.z j) }
+        ensures { result ≡ false → AreStill (all_shapes self.entry) L (place_of at.now.x at.now.y at.now.z) }
     {
-        any_touches(self.planes, at) || any_touches(self.spheres, at)
+        let touched = any_touches(self.planes, at);
+        then_touches(touched, self.spheres, at)
     }
 }

@@ -1,10 +1,10 @@
 // What every kind of shape does with a place, and a quick look at L places side by side.
-ghost use Rattle.std.specs.Prelude.{◌≡◌, ℕ, ℤ, ◌<◌, ◌≤◌, ◌^◌, false, map, None};
+ghost use Rattle.std.specs.Prelude.{◌≡◌, ℕ, ℤ, ◌<◌, ◌≤◌, ◌^◌, false, List, ◌++◌, map, None};
 ghost use Rattle.std.specs.List.{All};
 ghost use Rattle.pbd_num.specs.Vectors.{Within};
 ghost use Rattle.pbd_world.specs.Shapes.{Shape};
 ghost use Rattle.pbd_store.specs.Blocks.{place_of};
-ghost use Rattle.pbd_shape.specs.Way.{IsStill};
+ghost use Rattle.pbd_shape.specs.Way.{IsStill, AreStill};
 
 use pbd_num::Vec3;
 use pbd_store::Lanes3;
@@ -57,8 +57,7 @@ pub(crate) fn any_touches<S: Touch, const L: usize>(shapes: &[S], at: &Lanes3<L>
     requires lanes { L ≤ 16 }
     requires shapes { All S.is_in_range shapes.now }
     requires places { (j : ℕ) → j < L → Within (2 ^ 29) (place_of at.now.x at.now.y at.now.z j) }
-    ensures { result ≡ false → (limit : ℤ) (j : ℕ) → j < L
-        → IsStill limit (map S.shape shapes.now) (place_of at.now.x at.now.y at.now.z j) }
+    ensures { result ≡ false → AreStill (map S.shape shapes.now) L (place_of at.now.x at.now.y at.now.z) }
 {
     for shape in shapes {
         if one_touches(shape, at) {
@@ -66,4 +65,21 @@ pub(crate) fn any_touches<S: Touch, const L: usize>(shapes: &[S], at: &Lanes3<L>
         }
     }
     false
+}
+
+/// Whether the shapes before touch any of L places, as `touched` says, or those of one more kind do. Where none does, none of all
+/// these moves any of them.
+#[inline(always)]
+pub(crate) fn then_touches<S: Touch, const L: usize>(
+    touched: bool,
+    shapes: &[S],
+    at: &Lanes3<L>,
+) -> bool
+    requires lanes { L ≤ 16 }
+    requires shapes { All S.is_in_range shapes.now }
+    requires places { (j : ℕ) → j < L → Within (2 ^ 29) (place_of at.now.x at.now.y at.now.z j) }
+    ensures { (before : List Shape) → (touched ≡ false → AreStill before L (place_of at.now.x at.now.y at.now.z)) → result ≡ false
+        → AreStill (before ++ map S.shape shapes.now) L (place_of at.now.x at.now.y at.now.z) }
+{
+    touched || any_touches(shapes, at)
 }

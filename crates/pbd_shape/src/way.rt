@@ -1,5 +1,5 @@
-// The way of a place through shapes of one kind.
-ghost use Rattle.std.specs.Prelude.{◌≡◌, map, unsigned_abs, option_map, IfSome};
+// The way of a place through shapes, one kind after another.
+ghost use Rattle.std.specs.Prelude.{◌≡◌, map, unsigned_abs, option_map, option_and_then, IfSome};
 ghost use Rattle.std.specs.List.{All};
 ghost use Rattle.pbd_num.specs.Vectors.{Within};
 ghost use Rattle.pbd_world.specs.Shapes.{past, way_through};
@@ -36,9 +36,9 @@ fn past(limit: i64, way: Pushed, to: Option<Vec3>) -> Option<Pushed>
     }
 }
 
-/// The way on through shapes of one kind in order, and `None` where it leaves the limit.
+// The way on through shapes of one kind in order, and `None` where it leaves the limit.
 #[inline(always)]
-pub(crate) fn past_all<S: Touch>(limit: i64, shapes: &[S], way: Pushed) -> Option<Pushed>
+fn past_all<S: Touch>(limit: i64, shapes: &[S], way: Pushed) -> Option<Pushed>
     requires limit { IsLimit limit }
     requires shapes { All S.is_in_range shapes.now }
     requires way { Within (unsigned_abs limit) way.at }
@@ -53,4 +53,20 @@ pub(crate) fn past_all<S: Touch>(limit: i64, shapes: &[S], way: Pushed) -> Optio
         now = next;
     }
     Some(now)
+}
+
+/// The way on through the shapes of one more kind in order, from where it has come to so far. `None` where it leaves the limit, or
+/// has left it.
+#[inline(always)]
+pub(crate) fn then_past<S: Touch>(limit: i64, way: Option<Pushed>, shapes: &[S]) -> Option<Pushed>
+    requires limit { IsLimit limit }
+    requires shapes { All S.is_in_range shapes.now }
+    requires way { IfSome way (λ on. Within (unsigned_abs limit) on.at) }
+    ensures value { option_map way_of result ≡ option_and_then (way_through limit (map S.shape shapes.now)) (option_map way_of way) }
+    ensures within { IfSome result (λ next. Within (unsigned_abs limit) next.at) }
+{
+    match way {
+        None => None,
+        Some(way) => past_all(limit, shapes, way),
+    }
 }

@@ -36,6 +36,8 @@ loop-shape-preserved g c =
 pub returns : goal.returns
 returns g c =
     let at = c.args.at.now in
-    λ e limit j lt. sym (c.loop-shape.invariant limit j lt)
-    ∙ sym (way_all limit g.S.Touch.shape c.args.shapes.now c.loop-shape.shape-index
-    (starting (place_of at.x at.y at.z j)) c.loop-shape-test.false)
+    λ e. record {
+      at = λ limit j lt. sym (c.loop-shape.invariant limit j lt)
+          ∙ sym (way_all limit g.S.Touch.shape c.args.shapes.now c.loop-shape.shape-index
+          (starting (place_of at.x at.y at.z j)) c.loop-shape-test.false);
+    }

@@ -8,9 +8,8 @@ use Rattle.pbd_store.proofs.Saves.{place_loaded, held_loaded, block_saved, saved
 use Rattle.pbd_store.proofs.Places.{place_in, before_of}
 use Rattle.pbd_world.specs.Step.{Passing}
 use Rattle.pbd_store.specs.Moving.{motion_of}
-use Rattle.pbd_shape.specs.Valid.{IsLimit}
+use Rattle.pbd_shape.specs.Valid.{IsLimit, shapes_are}
 use Rattle.pbd_shape.specs.Way.{all_shapes, IsStill}
-use Rattle.pbd_shape.proofs.Ways.{shapes_are}
 use Rattle.pbd_shape.proofs.Still.{lane_within, pushed_still}
 use Rattle.pbd_shape.proofs.shapes.Shapes.push_block.Goals as goal
 
@@ -42,7 +41,7 @@ returns-then-not-touches-clause-outcome g c =
     let s : Passing = record { motion = motion_of c.args.work.now.store.now c.args.work.now.totals.now; touched = c.args.touched.now } in
     pushed_still limit shapes s c.requires.flags (c.args.block * g.row.L) g.row.L
     (λ j h within. subst (IsStill limit shapes) (place_loaded (λ p. p.at) g.row.L c.args.block j ps e.at_x e.at_y e.at_z h)
-    (c.touches.ensures c.if-not-touches.true limit j h))
+    ((c.touches.ensures c.if-not-touches.true).at limit j h))
 
 pub push_one_by_one-requires : goal.push_one_by_one-requires
 push_one_by_one-requires g c =

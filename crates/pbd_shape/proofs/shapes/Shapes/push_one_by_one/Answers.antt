@@ -6,12 +6,11 @@ use Rattle.pbd_num.specs.Vectors.{minus}
 use Rattle.pbd_world.specs.declared.totals.Class.TheVariants as classes
 use Rattle.pbd_world.specs.Ledger.{ledger_of, added}
 use Rattle.pbd_world.specs.Particles.{particle_at}
-use Rattle.pbd_shape.specs.Valid.{IsLimit}
+use Rattle.pbd_shape.specs.Valid.{IsLimit, shapes_are}
 use Rattle.pbd_shape.specs.Way.{way_of, all_shapes}
 use Rattle.pbd_world.proofs.Rooms.{room_at}
 use Rattle.pbd_num.proofs.Ranges.{wider}
 use Rattle.pbd_store.proofs.Places.{inside_more, within_at}
-use Rattle.pbd_shape.proofs.Ways.{shapes_are}
 use Rattle.pbd_shape.proofs.Steps.{has_particle, are_all, pushing_none, pushing_out, pushing_on, pushing_all, way_is, flagged_length}
 use Rattle.pbd_shape.proofs.shapes.Shapes.push_one_by_one.Goals as goal
 
