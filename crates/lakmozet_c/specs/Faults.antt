@@ -6,37 +6,18 @@ use Rattle.toml.specs.Parse.{parse_document}
 use Rattle.pbd_world.specs.declared.parts.Parts.{Parts}
 use Rattle.pbd_world.specs.World.{opened}
 use Rattle.pbd_scene.specs.declared.tables.TableName.{TableName}
-use Rattle.pbd_scene.specs.declared.tables.TableName.TheVariants as tables
 use Rattle.pbd_scene.specs.declared.tables.KeyName.{KeyName}
-use Rattle.pbd_scene.specs.declared.tables.KeyName.TheVariants as keys
 use Rattle.pbd_scene.specs.declared.fault.SceneRule.{SceneRule}
 use Rattle.pbd_scene.specs.declared.fault.SceneFault.{SceneFault}
 use Rattle.pbd_scene.specs.declared.fault.SceneFault.TheVariants.{NotToml, Refused, OutOfMemory}
 use Rattle.pbd_scene.specs.Checks.{broken}
-use Rattle.pbd_scene.specs.Keys.{rule_number}
+use Rattle.pbd_scene.specs.Keys.{rule_number, table_names, key_names}
 use Rattle.pbd_scene.specs.Scene.{scene_of}
 use Rattle.pbd_cloth.specs.Slots.{Slotted, begun}
 use Rattle.lakmozet_c.specs.declared.plain.Fault.{Fault}
 use Rattle.lakmozet_c.specs.declared.opening.NoCloth.{NoCloth}
 use Rattle.lakmozet_c.specs.declared.opening.NoCloth.TheVariants.{TooManySlots, NotText, NoToml, NoScene}
 use Rattle.lakmozet_c.specs.Calls.{in_use, no_slot, status}
-
--- ---- numbers of names
-
--- the tables of a scene: the number of each is its place, from 0
-abbrev pub table_names : List TableName
-table_names = tables.Scene ∷ tables.Particle ∷ tables.Cloth ∷ tables.Rope ∷ tables.Link ∷ tables.Plane ∷ tables.Sphere ∷ tables.Track ∷ []
-
--- the keys, five a line
-abbrev pub key_names : List KeyName
-key_names =
-    keys.NoKey ∷ keys.Gravity ∷ keys.Passes ∷ keys.Damping ∷ keys.Thickness ∷
-    keys.Friction ∷ keys.Pins ∷ keys.At ∷ keys.Velocity ∷ keys.Weight ∷
-    keys.Held ∷ keys.Origin ∷ keys.Across ∷ keys.Down ∷ keys.Rows ∷
-    keys.Columns ∷ keys.Stretch ∷ keys.Shear ∷ keys.Bend ∷ keys.StretchTear ∷
-    keys.ShearTear ∷ keys.BendTear ∷ keys.Spacing ∷ keys.Count ∷ keys.A ∷
-    keys.B ∷ keys.Rest ∷ keys.Stiffness ∷ keys.Tear ∷ keys.Normal ∷
-    keys.Offset ∷ keys.Centre ∷ keys.Radius ∷ keys.Particle ∷ keys.Keys ∷ []
 
 -- ---- why nothing was opened
 

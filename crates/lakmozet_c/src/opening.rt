@@ -5,7 +5,7 @@ ghost use Rattle.pbd_world.specs.Valid.{is_limit};
 ghost use Rattle.pbd_cloth.specs.Slots.{begun};
 ghost use Rattle.pbd_scene.specs.declared.fault.SceneFault.TheVariants.{OutOfMemory};
 ghost use Rattle.lakmozet_c.specs.declared.opening.NoCloth.TheVariants.{NoScene};
-ghost use Rattle.lakmozet_c.specs.Faults.{key_names, stop_number, table_names, IsFaultIn, IsOpened, IsSceneIn, IsWhy, IsWhyIn, TellsWhy};
+ghost use Rattle.lakmozet_c.specs.Faults.{stop_number, IsFaultIn, IsOpened, IsSceneIn, IsWhy, IsWhyIn, TellsWhy};
 
 use crate::numbers::{NO_SLOT, OUT_OF_MEMORY, SCENE_NOT_TEXT, SCENE_NOT_TOML, SCENE_REFUSED};
 use crate::plain::Fault;

@@ -16,61 +16,15 @@ regrouped n r t p k = simp append_assoc refl
 
 -- ---- names fit a line
 
+-- The first of each is told by itself, and all others are computed: a new one wants no line here.
 pub rule_short : (x : SceneRule) → length (rule_text x) ≤ 20
 rule_short rules.UnknownKey = lit≤ tt
-rule_short rules.MissingKey = lit≤ tt
-rule_short rules.WrongType = lit≤ tt
-rule_short rules.OutOfRange = lit≤ tt
-rule_short rules.TooMany = lit≤ tt
-rule_short rules.BadIndex = lit≤ tt
-rule_short rules.SelfLink = lit≤ tt
-rule_short rules.DoubleLink = lit≤ tt
-rule_short rules.TooManyAtParticle = lit≤ tt
-rule_short rules.BadTrack = lit≤ tt
+rule_short x = lit≤ tt
 
 pub table_short : (x : TableName) → length (table_text x) ≤ 20
 table_short tables.Scene = lit≤ tt
-table_short tables.Particle = lit≤ tt
-table_short tables.Cloth = lit≤ tt
-table_short tables.Rope = lit≤ tt
-table_short tables.Link = lit≤ tt
-table_short tables.Plane = lit≤ tt
-table_short tables.Sphere = lit≤ tt
-table_short tables.Track = lit≤ tt
+table_short x = lit≤ tt
 
 pub key_short : (x : KeyName) → length (key_text x) ≤ 20
 key_short keys.NoKey = lit≤ tt
-key_short keys.Gravity = lit≤ tt
-key_short keys.Passes = lit≤ tt
-key_short keys.Damping = lit≤ tt
-key_short keys.Thickness = lit≤ tt
-key_short keys.Friction = lit≤ tt
-key_short keys.Pins = lit≤ tt
-key_short keys.At = lit≤ tt
-key_short keys.Velocity = lit≤ tt
-key_short keys.Weight = lit≤ tt
-key_short keys.Held = lit≤ tt
-key_short keys.Origin = lit≤ tt
-key_short keys.Across = lit≤ tt
-key_short keys.Down = lit≤ tt
-key_short keys.Rows = lit≤ tt
-key_short keys.Columns = lit≤ tt
-key_short keys.Stretch = lit≤ tt
-key_short keys.Shear = lit≤ tt
-key_short keys.Bend = lit≤ tt
-key_short keys.StretchTear = lit≤ tt
-key_short keys.ShearTear = lit≤ tt
-key_short keys.BendTear = lit≤ tt
-key_short keys.Spacing = lit≤ tt
-key_short keys.Count = lit≤ tt
-key_short keys.A = lit≤ tt
-key_short keys.B = lit≤ tt
-key_short keys.Rest = lit≤ tt
-key_short keys.Stiffness = lit≤ tt
-key_short keys.Tear = lit≤ tt
-key_short keys.Normal = lit≤ tt
-key_short keys.Offset = lit≤ tt
-key_short keys.Centre = lit≤ tt
-key_short keys.Radius = lit≤ tt
-key_short keys.Particle = lit≤ tt
-key_short keys.Keys = lit≤ tt
+key_short x = lit≤ tt

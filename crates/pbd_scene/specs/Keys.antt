@@ -59,6 +59,22 @@ table_text tables.Plane = codes "plane"
 table_text tables.Sphere = codes "sphere"
 table_text tables.Track = codes "track"
 
+-- The numbers of tables and of keys, which are given to programs and stay: the number of each is its place, from 0. So a new one goes
+-- behind those that are there, here as among the variants, wherever it stands in a scene.
+abbrev pub table_names : List TableName
+table_names = tables.Scene ∷ tables.Particle ∷ tables.Cloth ∷ tables.Rope ∷ tables.Link ∷ tables.Plane ∷ tables.Sphere ∷ tables.Track ∷ []
+
+-- the keys, five a line
+abbrev pub key_names : List KeyName
+key_names =
+    keys.NoKey ∷ keys.Gravity ∷ keys.Passes ∷ keys.Damping ∷ keys.Thickness ∷
+    keys.Friction ∷ keys.Pins ∷ keys.At ∷ keys.Velocity ∷ keys.Weight ∷
+    keys.Held ∷ keys.Origin ∷ keys.Across ∷ keys.Down ∷ keys.Rows ∷
+    keys.Columns ∷ keys.Stretch ∷ keys.Shear ∷ keys.Bend ∷ keys.StretchTear ∷
+    keys.ShearTear ∷ keys.BendTear ∷ keys.Spacing ∷ keys.Count ∷ keys.A ∷
+    keys.B ∷ keys.Rest ∷ keys.Stiffness ∷ keys.Tear ∷ keys.Normal ∷
+    keys.Offset ∷ keys.Centre ∷ keys.Radius ∷ keys.Particle ∷ keys.Keys ∷ []
+
 abbrev pub rule_number : SceneRule → ℕ
 rule_number rules.UnknownKey = 2
 rule_number rules.MissingKey = 3

@@ -35,11 +35,7 @@ impl EntryReader for Planes {
     fn read(&self, _before: &[Plane], entry: &Entry<'_>) -> Result<Plane, SceneFault> {
         let most = Limit { units: 1024 };
         let normal = entry.required_vector(KeyName::Normal, &most)?;
-        let offset = entry.required_integer(
-            KeyName::Offset,
-            -1_099_511_627_776,
-            1_099_511_627_776,
-        )?;
+        let offset = entry.required_within(KeyName::Offset, 1_099_511_627_776)?;
         entry
             .place
             .expect(has_length(normal), SceneRule::OutOfRange, KeyName::Normal)?;

@@ -1,5 +1,5 @@
 // The keys of a table, and the kinds of single values that they take.
-ghost use Rattle.std.specs.Prelude.{◌≡◌, IsTrue, ◌≤◌, ◌≤ℤ◌, ◌*ℤ◌, ◌^◌, pos, unsigned_abs, IfOk, option_map, string_bytes, Err};
+ghost use Rattle.std.specs.Prelude.{◌≡◌, IsTrue, ◌≤◌, ◌≤ℤ◌, ◌*ℤ◌, ◌^◌, neg_ℤ, pos, unsigned_abs, IfOk, option_map, string_bytes, Err};
 ghost use Rattle.std.specs.List.{list_all};
 ghost use Rattle.std.specs.BTreeMap.{keys};
 ghost use Rattle.toml.specs.View.{view, table_view};
@@ -144,6 +144,15 @@ impl Entry<'_> {
             None => broken(SceneRule::MissingKey, self.place, key),
             Some(value) => self.integer(key, low, high, value),
         }
+    }
+
+    /// The integer of a key that must be there, at most so much in size.
+    pub fn required_within(&self, key: KeyName, most: i64) -> Result<i64, SceneFault>
+        requires { unsigned_abs most ≤ 2 ^ 40 }
+        ensures { Gives (λ n. n) result
+            (required_integer self.now.place key (neg_ℤ most) most (table_view self.now.members.now)) }
+    {
+        self.required_integer(key, -most, most)
     }
 
     /// The integer in low..=high of a key, if it is there.
