@@ -68,6 +68,9 @@ second_then_first = refl
 
 -- ---- shapes
 
+-- (The solids go by the order of the shapes, by `shapes_are` of LeftOutside, and which is the last asks for no kind. So two kinds tell
+-- the order here, and a new one wants no row.)
+
 abbrev above : ℕ → Plane
 above height = record { normal = at 0 1 0; offset = pos height }
 

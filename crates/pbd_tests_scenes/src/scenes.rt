@@ -111,7 +111,7 @@ fn copied_tracks(alloc: Global, tracks: &[(u32, &[Key])]) -> Result<List<Track>,
     Ok(copies)
 }
 
-/// What a drawing consists of.
+/// What a drawing consists of. Its parts have nothing of a kind that no drawing has.
 pub fn parts_of(alloc: Global, drawing: &Drawing) -> Result<Parts, AllocError> {
     let particles = List::copied(alloc, drawing.particles)?;
     let links = List::copied(alloc, drawing.links)?;
@@ -129,7 +129,7 @@ pub fn parts_of(alloc: Global, drawing: &Drawing) -> Result<Parts, AllocError> {
         damping: drawing.damping,
         thickness: drawing.thickness,
         friction: drawing.friction,
-        limit: drawing.limit,
+        ..Parts::empty(alloc, drawing.limit)
     })
 }
 

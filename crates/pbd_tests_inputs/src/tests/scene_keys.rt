@@ -2,7 +2,9 @@
 //!
 //! Of a table's keys, in the order in which they are looked at, each is left out where it may not be, has a value of another
 //! kind, has values out of its range where it has one, and has a value of another kind where the next key has one too, so that
-//! the earlier is told. The last line of a table has a key that there isn't, behind one with a value of another kind.
+//! the earlier is told. The last line of a table has a key that there isn't, behind one with a value of another kind. Further
+//! rules of `scene.rt` stand with others that they come before or behind; those of one table alone, and values at its bounds
+//! that are taken, may stand with its keys.
 
 /// Values of other kinds in place of a table, of an entry and of keys beside the tables, and numbers out of range.
 pub const SCENE_KEYS: &str = "gravity=1 => 4 scene 0 gravity

@@ -3,7 +3,7 @@ use super::both::{Script, wrong_script};
 use super::step_rows::{ROWS, Row};
 use pbd_num::Vec3;
 use pbd_tests_rows::{WrongRows, all_hold};
-use pbd_tests_scenes::{in_a_row, scene};
+use pbd_tests_scenes::in_a_row;
 use pbd_world::{Command, Refusal, Reply};
 
 /// How many rows the two projectors don't answer as they say.
@@ -15,7 +15,7 @@ fn wrong_rows(rt: &HostRuntime, rows: &[Row]) -> u32 {
             particles: row.scene.particles.len(),
             places: row.places,
         };
-        let scene = scene(rt.alloc(), &row.scene);
+        let scene = row.scene(rt.alloc());
         wrong = wrong.saturating_add(wrong_script(rt, &row.name, scene, &script));
     }
     wrong

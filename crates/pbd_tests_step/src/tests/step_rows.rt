@@ -4,9 +4,13 @@ use pbd_num::{RANGE, Vec3};
 use pbd_tests_rows::{place, plane};
 use pbd_tests_scenes::{
     AT_THE_EDGE, Drawing, EMPTY, FLIES, LED, NEAR_THE_EDGE, ON_A_SPHERE, PULLS,
-    PULLS_AT_A_HELD_ONE, PUSHES, TEARS, free, free_at, held, key, link, particle,
+    PULLS_AT_A_HELD_ONE, PUSHES, TEARS, free, free_at, held, key, link, particle, parts_of,
+    scene_of,
 };
-use pbd_world::{Command, Key, Kind, Link, Particle, Phase, Plane, Refusal, Reply, Sphere};
+use pbd_world::{
+    Command, Key, Kind, Link, Particle, PartsFault, Phase, Plane, Refusal, Reply, Scene, Sphere,
+};
+use std::alloc::Global;
 
 macro_rules! leaves {
     ($step:expr, $phase:ident, $element:expr) => {
@@ -109,6 +113,13 @@ pub(crate) struct Row {
     pub(crate) scene: Drawing,
     pub(crate) commands: &'static [Asked],
     pub(crate) places: &'static [Vec3],
+}
+
+impl Row {
+    /// The row's scene: what its drawing consists of, and of a kind that no drawing has what the row has.
+    pub(crate) fn scene(&self, alloc: Global) -> Result<Scene, PartsFault> {
+        scene_of(alloc, parts_of(alloc, &self.scene))
+    }
 }
 
 /// A row: its name, a scene, commands with their replies, and places.
