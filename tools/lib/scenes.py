@@ -1,83 +1,76 @@
 """The rules of scenes, as docs/FORMATS.md has them, looked at in its order: which is the first that a scene breaks, and where.
 
-This is a second reading of the rules, beside the program's: tools/explain-check compares the two. docs/check compares KEYS with
-the tables of docs/FORMATS.md and with docs/scene.schema.json.
+This is a second reading of the rules, beside the program's: tools/explain-check compares the two. The tables, their keys, and the
+kinds and ranges of these are read from docs/scene.schema.json, which docs/check compares with the tables of docs/FORMATS.md; so a
+table whose keys have no rule but these wants nothing here.
 """
 import difflib
+import json
+import os
 
 R = 2**29
+SCHEMA = os.path.join(os.path.dirname(os.path.realpath(__file__)), "../../docs/scene.schema.json")
 # the rules by their numbers
 NAMES = {
     2: "UnknownKey", 3: "MissingKey", 4: "WrongType", 5: "OutOfRange", 6: "TooMany", 7: "BadIndex", 8: "SelfLink", 9: "DoubleLink",
     10: "TooManyAtParticle", 11: "BadTrack",
 }  # fmt: skip
-MOST = {"particle": 65_536, "cloth": 64, "rope": 64, "link": 524_288, "plane": 256, "sphere": 256, "track": 4_096}
 MOST_PARTICLES, MOST_AT_PARTICLE, MOST_KEYS, LAST_STEP = 65_536, 32, 1_024, 1_000_000
 UNIT = "units of 1/65,536 metre"
 STIFFNESS = "parts of 256 of the way to the rest length in a pass"
 VELOCITY = f"{UNIT} a step"
-WEIGHT = "inverse mass"
-# The keys of each table in the order in which they are looked at: kind, least, greatest, whether it must be there, and the unit.
-# A bound that is a word is that many times R.
-KEYS = {
-    "scene": {
-        "gravity": ("vector", "-R", "R", False, f"{VELOCITY} and step"),
-        "passes": ("integer", 0, 64, False, "passes over all constraints in a step"),
-        "damping": ("integer", 0, 1_024, False, "parts of 1,024 of each velocity, lost in a step"),
-        "thickness": ("integer", 0, 1_048_576, False, UNIT),
-        "friction": ("integer", 0, 256, False, "parts of 256 of a touching particle's velocity, lost in a step"),
-        "pins": ("integers", None, None, False, "numbers of particles"),
-    },
-    "particle": {
-        "at": ("vector", "-R", "R", True, UNIT),
-        "velocity": ("vector", "-2R", "2R", False, VELOCITY),
-        "weight": ("integer", 1, 65_535, False, WEIGHT),
-        "held": ("boolean", None, None, False, ""),
-    },
-    "cloth": {
-        "origin": ("vector", "-R", "R", True, UNIT),
-        "across": ("vector", "-R", "R", True, UNIT),
-        "down": ("vector", "-R", "R", True, UNIT),
-        "rows": ("integer", 1, 256, True, "particles"),
-        "columns": ("integer", 1, 256, True, "particles"),
-        "weight": ("integer", 1, 65_535, False, WEIGHT),
-        "stretch": ("integer", 0, 256, False, STIFFNESS),
-        "shear": ("integer", 0, 256, False, STIFFNESS),
-        "bend": ("integer", 0, 256, False, STIFFNESS),
-        "stretch_tear": ("integer", 0, "4R", False, UNIT),
-        "shear_tear": ("integer", 0, "4R", False, UNIT),
-        "bend_tear": ("integer", 0, "4R", False, UNIT),
-    },
-    "rope": {
-        "origin": ("vector", "-R", "R", True, UNIT),
-        "spacing": ("vector", "-R", "R", True, UNIT),
-        "count": ("integer", 1, 4_096, True, "particles"),
-        "weight": ("integer", 1, 65_535, False, WEIGHT),
-        "stretch": ("integer", 0, 256, False, STIFFNESS),
-        "bend": ("integer", 0, 256, False, STIFFNESS),
-        "stretch_tear": ("integer", 0, "4R", False, UNIT),
-        "bend_tear": ("integer", 0, "4R", False, UNIT),
-    },
-    "link": {
-        "a": ("integer", None, None, True, "the number of a particle"),
-        "b": ("integer", None, None, True, "the number of a particle"),
-        "rest": ("integer", 0, "4R", False, UNIT),
-        "stiffness": ("integer", 0, 256, False, STIFFNESS),
-        "tear": ("integer", 0, "4R", False, UNIT),
-    },
-    "plane": {
-        "normal": ("vector", -1_024, 1_024, True, "a direction of any length"),
-        "offset": ("integer", -(2**40), 2**40, True, f"the normal's length times {UNIT}"),
-    },
-    "sphere": {
-        "centre": ("vector", "-R", "R", True, UNIT),
-        "radius": ("integer", 1, "R", True, UNIT),
-    },
-    "track": {
-        "particle": ("integer", None, None, True, "the number of a particle"),
-        "keys": ("rows", None, None, True, f"[step, x, y, z], places in {UNIT}"),
-    },
-}  # fmt: skip
+# what the numbers of a key are in where it isn't UNIT
+UNITS = {
+    "gravity": f"{VELOCITY} and step",
+    "passes": "passes over all constraints in a step",
+    "damping": "parts of 1,024 of each velocity, lost in a step",
+    "friction": "parts of 256 of a touching particle's velocity, lost in a step",
+    "velocity": VELOCITY,
+    "weight": "inverse mass",
+    "rows": "particles",
+    "columns": "particles",
+    "count": "particles",
+    "stretch": STIFFNESS,
+    "shear": STIFFNESS,
+    "bend": STIFFNESS,
+    "stiffness": STIFFNESS,
+    "normal": "a direction of any length",
+    "offset": f"the normal's length times {UNIT}",
+}
+
+
+def word_of(number):
+    """Returns a bound as a word where it is that many times R, as those of places, velocities and lengths are."""
+    words = {R: "R", 2 * R: "2R", 4 * R: "4R"}
+    return ("-" if number < 0 else "") + words[abs(number)] if abs(number) in words else number
+
+
+def key_of(name, said, required):
+    """Returns of a key its kind, least, greatest, whether it must be there, and the unit. A bound that is a word is that many times R."""
+    kind = said["type"] if said["type"] != "array" else {3: "vector", None: "integers"}.get(said.get("minItems"), "rows")
+    number = said["items"] if kind == "vector" else said
+    bounds = number.get("minimum"), number.get("maximum")
+    # (a number of a particle is bounded by how many there are)
+    if None in bounds or bounds == (0, MOST_PARTICLES - 1):
+        return kind, None, None, required, ""
+    return kind, word_of(bounds[0]), word_of(bounds[1]), required, UNITS.get(name, UNIT)
+
+
+def tables():
+    """Returns how many entries each table may have, and its keys: both in the order in which they are looked at."""
+    with open(SCHEMA, encoding="utf-8") as file:
+        schema = json.load(file)
+    most = {name: it["maxItems"] for name, it in schema["properties"].items() if "$ref" in it.get("items", {})}
+    alone = {name: it for name, it in schema["properties"].items() if name not in most}
+    parts = {"scene": {"properties": alone}} | {name: schema["$defs"][name] for name in most}
+    keys = {
+        table: {name: key_of(name, it, name in part.get("required", [])) for name, it in part["properties"].items()}
+        for table, part in parts.items()
+    }
+    return most, keys
+
+
+MOST, KEYS = tables()
 
 
 class Fault(Exception):

@@ -15,7 +15,8 @@ SILENT = {"$schema", "$defs", "title", "description", "default"}
 
 
 def read():
-    return json.loads((TOP / "docs/scene.schema.json").read_text())
+    with open(scenes.SCHEMA, encoding="utf-8") as file:
+        return json.load(file)
 
 
 # ---- what a schema takes
@@ -97,44 +98,29 @@ KINDS = {"vector": "vector", "integer": "integer", "true or false": "boolean", "
 
 
 def schema_says(schema):
-    """Returns the same of the schema."""
+    """Returns the same of the schema, as tools/explain reads it, and what a key is where it isn't there."""
     found = {}
-    for table in scenes.KEYS:
+    for table, keys in scenes.KEYS.items():
         part = schema if table == "scene" else schema["$defs"][table]
-        for name, it in part["properties"].items():
-            if table == "scene" and name in scenes.MOST:
-                continue
-            kind = it["type"] if it["type"] != "array" else {3: "vector", None: "integers"}.get(it.get("minItems"), "rows")
-            number = it["items"] if kind == "vector" else it
-            bounds = (number["minimum"], number["maximum"]) if "minimum" in number else None
-            # (which particles there are no table of docs/FORMATS.md bounds but by how many there may be)
-            bounds = None if bounds == (0, scenes.MOST_PARTICLES - 1) else bounds
-            found[table, name] = kind, bounds, name in part.get("required", []), it.get("default")
+        for name, (kind, least, greatest, required, _) in keys.items():
+            bounds = None if least is None else (scenes.bound(least, scenes.R), scenes.bound(greatest, scenes.R))
+            found[table, name] = kind, bounds, required, part["properties"][name].get("default")
     return found
 
 
-def tool_says():
-    """Returns the same of what tools/explain looks at, which knows no values of keys that are left out."""
-    return {
-        (table, name): (kind, None if least is None else (scenes.bound(least, scenes.R), scenes.bound(greatest, scenes.R)), required)
-        for table, keys in scenes.KEYS.items()
-        for name, (kind, least, greatest, required, _) in keys.items()
-    }
-
-
 def differences():
-    """Returns where the schema, or tools/explain, says something else than docs/FORMATS.md."""
+    """Returns where the schema, and with it tools/explain, says something else than docs/FORMATS.md."""
     text, schema, found = (TOP / "docs/FORMATS.md").read_text(), read(), []
-    said_there, in_schema, in_tool = said(text), schema_says(schema), tool_says()
-    for key in sorted(said_there.keys() | in_schema.keys() | in_tool.keys()):
+    said_there, in_schema = said(text), schema_says(schema)
+    for key in sorted(said_there.keys() | in_schema.keys()):
         if said_there.get(key) != in_schema.get(key):
             found.append(f"{' '.join(key)}: docs/FORMATS.md has {said_there.get(key)}, and docs/scene.schema.json {in_schema.get(key)}")
-        if said_there.get(key, ())[:3] != in_tool.get(key):
-            found.append(f"{' '.join(key)}: docs/FORMATS.md has {said_there.get(key)}, and tools/lib/scenes.py {in_tool.get(key)}")
+    if not found and list(said_there) != list(in_schema):
+        found.append("docs/FORMATS.md has keys in another order than docs/scene.schema.json")
     numbers = dict(re.findall(r"`(\w+)` ([\d,]+)", text[text.index("The arrays of tables,"):text.index("### particle")]))
     most = {name: number(it) for name, it in numbers.items()}
-    if most != scenes.MOST or any(schema["properties"][name]["maxItems"] != it for name, it in most.items()):
-        found.append(f"docs/FORMATS.md has at most {most} entries of tables, and docs/scene.schema.json or tools/lib/scenes.py others")
+    if list(most.items()) != list(scenes.MOST.items()):
+        found.append(f"docs/FORMATS.md has at most {most} entries of tables, and docs/scene.schema.json {scenes.MOST}")
     rows, keys = text[text.index("| `keys` |"):].split("\n")[0], schema["$defs"]["track"]["properties"]["keys"]
     step = keys["items"]["prefixItems"][0]
     if "1 to 1,024 arrays" not in rows or (keys["minItems"], keys["maxItems"]) != (1, 1_024) or span(rows) != (step["minimum"], step["maximum"]):
