@@ -59,8 +59,8 @@ table_text tables.Plane = codes "plane"
 table_text tables.Sphere = codes "sphere"
 table_text tables.Track = codes "track"
 
--- The numbers of tables and of keys, which are given to programs and stay: the number of each is its place, from 0. So a new one goes
--- behind those that are there, here as among the variants, wherever it stands in a scene.
+-- The numbers by which the C interface tells tables and keys: the number of each is its place, from 0. Programs know them, so they stay,
+-- and a new one goes behind those that are there, here as among the variants, wherever it is looked at in a scene.
 abbrev pub table_names : List TableName
 table_names = tables.Scene ∷ tables.Particle ∷ tables.Cloth ∷ tables.Rope ∷ tables.Link ∷ tables.Plane ∷ tables.Sphere ∷ tables.Track ∷ []
 

@@ -15,7 +15,7 @@ fn wrong_rows(rt: &HostRuntime, rows: &[Row]) -> u32 {
             particles: row.scene.particles.len(),
             places: row.places,
         };
-        let scene = row.scene(rt.alloc());
+        let scene = row.drawn(rt.alloc());
         wrong = wrong.saturating_add(wrong_script(rt, &row.name, scene, &script));
     }
     wrong

@@ -117,7 +117,7 @@ pub(crate) struct Row {
 
 impl Row {
     /// The row's scene: what its drawing consists of, and of a kind that no drawing has what the row has.
-    pub(crate) fn scene(&self, alloc: Global) -> Result<Scene, PartsFault> {
+    pub(crate) fn drawn(&self, alloc: Global) -> Result<Scene, PartsFault> {
         scene_of(alloc, parts_of(alloc, &self.scene))
     }
 }
