@@ -4,6 +4,7 @@ ghost use Rattle.lakmozet_c.specs.Prelude.{opened, parse_document, AreSlots, IsU
 ghost use Rattle.pbd_world.specs.Valid.{is_limit};
 ghost use Rattle.pbd_cloth.specs.Slots.{begun};
 ghost use Rattle.pbd_scene.specs.declared.fault.SceneFault.TheVariants.{OutOfMemory};
+ghost use Rattle.pbd_scene.specs.Keys.{key_names, table_names};
 ghost use Rattle.lakmozet_c.specs.declared.opening.NoCloth.TheVariants.{NoScene};
 ghost use Rattle.lakmozet_c.specs.Faults.{stop_number, IsFaultIn, IsOpened, IsSceneIn, IsWhy, IsWhyIn, TellsWhy};
 
