@@ -12,10 +12,10 @@ use Rattle.pbd_world.specs.declared.command.Reply.TheVariants as replies
 use Rattle.pbd_world.specs.World.{World}
 use Rattle.pbd_world.specs.Outcomes.{◌>>=◌, unless, repeated}
 use Rattle.pbd_world.specs.Step.{step}
-use Rattle.pbd_world.specs.Meaning.{steps_of, run_steps, done_or_refused, meaning, after, reply}
+use Rattle.pbd_world.specs.Meaning.{steps_of, outcome, done_or_refused, meaning, after, reply}
 use Rattle.pbd_world.specs.Session.{last_world, is_refused, refused_count}
 use Rattle.pbd_world.proofs.KeepingOn.{bind-keeps}
-use Rattle.pbd_world.proofs.StepsLead.{step-leads, step_counts}
+use Rattle.pbd_world.proofs.StepsLead.{step_counts}
 
 -- ---- steps, without commands
 
@@ -72,14 +72,14 @@ not_above a b h = by (nat_lt a b) refl
     by true e = absurd (omega (arith, h, ltb-true a b e))
     by false e = refl
 
-pub run_is : (w : World) (n : ℕ) → 1 ≤ n → n ≤ 100000 → w.steps + n ≤ 1000000 → run_steps w n ≡ steps_of n w
+pub run_is : (w : World) (n : ℕ) → 1 ≤ n → n ≤ 100000 → w.steps + n ≤ 1000000 → outcome w (Step n) ≡ steps_of n w
 run_is w n low high room =
     let few = not (nat_le 1 n && nat_le n 100000) in
     let late = nat_lt 1000000 (w.steps + n) in
     ap (λ (r : Result World Refusal). r >>= steps_of n) (passes few late BadCount StepLimit w (counts n low high)
     (not_above 1000000 (w.steps + n) room))
 
-run_stops : (w : World) (n : ℕ) → 1 ≤ n → n ≤ 100000 → 1000000 < w.steps + n → run_steps w n ≡ Err StepLimit
+run_stops : (w : World) (n : ℕ) → 1 ≤ n → n ≤ 100000 → 1000000 < w.steps + n → outcome w (Step n) ≡ Err StepLimit
 run_stops w n low high none =
     let few = not (nat_le 1 n && nat_le n 100000) in
     let late = nat_lt 1000000 (w.steps + n) in
@@ -93,7 +93,7 @@ pub record Ran (w : World) (n : ℕ) (v : World) : Type 0 where
   pub room : w.steps + n ≤ 1000000
   pub is : steps_of n w ≡ Ok v
 
-ran : (w : World) (n : ℕ) (v : World) → run_steps w n ≡ Ok v → Ran w n v
+ran : (w : World) (n : ℕ) (v : World) → outcome w (Step n) ≡ Ok v → Ran w n v
 ran w n v h = by (not (nat_le 1 n && nat_le n 100000)) (nat_lt 1000000 (w.steps + n)) refl refl h
   where
     was_true : (b : Bool) → not b ≡ false → b ≡ true
@@ -110,35 +110,35 @@ ran w n v h = by (not (nat_le 1 n && nat_le n 100000)) (nat_lt 1000000 (w.steps 
 
 -- ---- what was answered
 
-is_done : (w : World) (r : Result World Refusal) → (done_or_refused w r).1 ≡ replies.Done → r ≡ Ok (done_or_refused w r).0
+is_done : (w : World) (r : Result World Refusal) → (done_or_refused w replies.Done r).1 ≡ replies.Done → r ≡ Ok (done_or_refused w replies.Done r).0
 is_done w (Ok v) h = refl
 is_done w (Err e) h = absurd (cc)
 
-is_stopped : (w : World) (r : Result World Refusal) (e : Refusal) → (done_or_refused w r).1 ≡ replies.Refused e → r ≡ Err e
+is_stopped : (w : World) (r : Result World Refusal) (e : Refusal) → (done_or_refused w replies.Done r).1 ≡ replies.Refused e → r ≡ Err e
 is_stopped w (Ok v) e h = absurd (cc)
 is_stopped w (Err f) e h = ap (λ (x : Refusal). Err x) (told f e h)
   where
     told : (f e : Refusal) → replies.Refused f ≡ replies.Refused e → f ≡ e
     told f e h = cc
 
-same_answer : (w v : World) (r : Result World Refusal) → (done_or_refused w r).1 ≡ (done_or_refused v r).1
+same_answer : (w v : World) (r : Result World Refusal) → (done_or_refused w replies.Done r).1 ≡ (done_or_refused v replies.Done r).1
 same_answer w v (Ok u) = refl
 same_answer w v (Err e) = refl
 
-same_world : (w v : World) (r : Result World Refusal) → (done_or_refused v r).1 ≡ replies.Done
-    → (done_or_refused w r).0 ≡ (done_or_refused v r).0
+same_world : (w v : World) (r : Result World Refusal) → (done_or_refused v replies.Done r).1 ≡ replies.Done
+    → (done_or_refused w replies.Done r).0 ≡ (done_or_refused v replies.Done r).0
 same_world w v (Ok u) h = refl
 same_world w v (Err e) h = absurd (cc)
 
-done-ran : (w : World) (n : ℕ) → reply w (Step n) ≡ replies.Done → run_steps w n ≡ Ok (after w (Step n))
+done-ran : (w : World) (n : ℕ) → reply w (Step n) ≡ replies.Done → outcome w (Step n) ≡ Ok (after w (Step n))
 unfolding meaning
-done-ran w n h = is_done w (run_steps w n) h
+done-ran w n h = is_done w (outcome w (Step n)) h
 
 same_ok : (u v : World) → (let r : Result World Refusal = Ok u in r) ≡ Ok v → u ≡ v
 same_ok u v e = cc
 
 -- after its first part, the whole goes on as the second part
-run_on : (w v : World) (m n : ℕ) → 1 ≤ n → m + n ≤ 100000 → run_steps w m ≡ Ok v → run_steps w (m + n) ≡ run_steps v n
+run_on : (w v : World) (m n : ℕ) → 1 ≤ n → m + n ≤ 100000 → outcome w (Step m) ≡ Ok v → outcome w (Step (m + n)) ≡ outcome v (Step n)
 run_on w v m n low high h =
     let first = ran w m v h in
     let counted : v.steps ≡ w.steps + m = counted_by (steps_of m w) first.is (steps_count m w) in
@@ -159,7 +159,7 @@ pub second-answers : (w : World) (m n : ℕ) → 1 ≤ m → 1 ≤ n → m + n �
 unfolding meaning
 second-answers w m n low_m low high h =
     let v = after w (Step m) in
-    ap (λ (r : Result World Refusal). (done_or_refused w r).1) (run_on w v m n low high (done-ran w m h)) ∙ same_answer w v (run_steps v n)
+    ap (λ (r : Result World Refusal). (done_or_refused w replies.Done r).1) (run_on w v m n low high (done-ran w m h)) ∙ same_answer w v (outcome v (Step n))
 
 pub both-lead : (w : World) (m n : ℕ) → 1 ≤ m → 1 ≤ n → m + n ≤ 100000 → reply w (Step m) ≡ replies.Done
     → reply (after w (Step m)) (Step n) ≡ replies.Done
@@ -167,25 +167,25 @@ pub both-lead : (w : World) (m n : ℕ) → 1 ≤ m → 1 ≤ n → m + n ≤ 10
 unfolding meaning
 both-lead w m n low_m low high h k =
     let v = after w (Step m) in
-    ap (λ (r : Result World Refusal). (done_or_refused w r).0) (run_on w v m n low high (done-ran w m h)) ∙ same_world w v (run_steps v n) k
+    ap (λ (r : Result World Refusal). (done_or_refused w replies.Done r).0) (run_on w v m n low high (done-ran w m h)) ∙ same_world w v (outcome v (Step n)) k
 
 pub first-stops : (w : World) (m n : ℕ) (refusal : Refusal) → 1 ≤ m → m + n ≤ 100000 → w.steps + (m + n) ≤ 1000000
     → reply w (Step m) ≡ replies.Refused refusal → reply w (Step (m + n)) ≡ replies.Refused refusal
 unfolding meaning
 first-stops w m n refusal low high room h =
     let first : steps_of m w ≡ Err refusal = sym (run_is w m low (omega (arith, high)) (omega (arith, room)))
-    ∙ is_stopped w (run_steps w m) refusal h in
-    let whole : run_steps w (m + n) ≡ Err refusal = run_is w (m + n) (omega (arith, low)) high room ∙ stop-there m n w refusal first in
-    ap (λ (r : Result World Refusal). (done_or_refused w r).1) whole
+    ∙ is_stopped w (outcome w (Step m)) refusal h in
+    let whole : outcome w (Step (m + n)) ≡ Err refusal = run_is w (m + n) (omega (arith, low)) high room ∙ stop-there m n w refusal first in
+    ap (λ (r : Result World Refusal). (done_or_refused w replies.Done r).1) whole
 
 -- ---- the whole from its parts
 
 answers : (w : World) (n : ℕ) → (reply w (Step n) ≡ replies.Done) ⊎ ((e : Refusal) × (reply w (Step n) ≡ replies.Refused e))
 unfolding meaning
-answers w n = by (run_steps w n)
+answers w n = by (outcome w (Step n))
   where
-    by : (r : Result World Refusal) → ((done_or_refused w r).1 ≡ replies.Done)
-        ⊎ ((e : Refusal) × ((done_or_refused w r).1 ≡ replies.Refused e))
+    by : (r : Result World Refusal) → ((done_or_refused w replies.Done r).1 ≡ replies.Done)
+        ⊎ ((e : Refusal) × ((done_or_refused w replies.Done r).1 ≡ replies.Refused e))
     by (Ok v) = inl refl
     by (Err e) = inr (e, refl)
 

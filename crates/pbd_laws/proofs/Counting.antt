@@ -138,14 +138,7 @@ command_most : (width lanes : ℕ) (w : World) (c : Command) → 0 < lanes → I
     → command_work width lanes w c ≤ steps_in (c ∷ []) * most_of_step width lanes w + 2
 unfolding command_work
 command_most width lanes w (commands.Step n) some sound = let few = steps-most width lanes n w some sound in omega (arith, few)
-command_most width lanes w commands.Frame some sound = omega arith
-command_most width lanes w (commands.Pin i) some sound = omega arith
-command_most width lanes w (commands.Unpin i) some sound = omega arith
-command_most width lanes w (commands.Move i to) some sound = omega arith
-command_most width lanes w (commands.Cut n) some sound = omega arith
-command_most width lanes w (commands.Gravity g) some sound = omega arith
-command_most width lanes w commands.Ledger some sound = omega arith
-command_most width lanes w commands.Bad some sound = omega arith
+command_most width lanes w c some sound = omega arith
 
 reply_most : (w : World) (r : Reply) → reply_work w r ≤ length w.particles
 unfolding reply_work
@@ -156,14 +149,7 @@ reply_most w (replies.Refused e) = omega arith
 
 steps_next : (c : Command) (cs : List Command) → steps_in (c ∷ cs) ≡ steps_in (c ∷ []) + steps_in cs
 steps_next (commands.Step n) cs = omega arith
-steps_next commands.Frame cs = omega arith
-steps_next (commands.Pin i) cs = omega arith
-steps_next (commands.Unpin i) cs = omega arith
-steps_next (commands.Move i to) cs = omega arith
-steps_next (commands.Cut n) cs = omega arith
-steps_next (commands.Gravity g) cs = omega arith
-steps_next commands.Ledger cs = omega arith
-steps_next commands.Bad cs = omega arith
+steps_next c cs = omega arith
 
 session_most : (width lanes : ℕ) (w : World) (cs : List Command) → 0 < lanes → IsSound w
     → session_work width lanes w cs ≤ most_of_session width lanes w cs

@@ -1,94 +1,58 @@
 -- Commands that name different things, in either order.
-use Rattle.std.proofs.Common.{◌≡◌, ◌≢◌, refl, sym, ap, ◌∙◌, ℕ, List, [], ◌∷◌, ◌++◌, All, length, subst, ℤ}
-use Rattle.std.specs.Prelude.{Some, Ok, Err, nat_le, not}
+use Rattle.std.proofs.Common.{◌≡◌, ◌≢◌, refl, sym, ap, ◌∙◌, List, [], ◌∷◌, ◌++◌, All}
+use Rattle.std.specs.Prelude.{Some, Ok, Err}
 use Rattle.std.proofs.lemmas.List.Elements.{All-head, All-tail}
-use Rattle.pbd_num.specs.Vectors.{is_within}
-use Rattle.pbd_world.specs.declared.parts.Particle.{Particle}
-use Rattle.pbd_world.specs.declared.parts.Link.{Link}
-use Rattle.pbd_world.specs.declared.parts.Track.{Track}
 use Rattle.pbd_world.specs.declared.command.Command.{Command}
 use Rattle.pbd_world.specs.declared.command.Command.TheVariants as commands
-use Rattle.pbd_world.specs.declared.command.Refusal.TheVariants.{NoParticle, NoLink, LinkGone, OutOfRange, NotHeld, Held, Tracked}
-use Rattle.pbd_world.specs.Particles.{particle_at}
-use Rattle.pbd_world.specs.World.{World, is_tracked}
-use Rattle.pbd_world.specs.Outcomes.{unless}
-use Rattle.pbd_world.specs.Bonds.{link_at}
-use Rattle.pbd_world.specs.Meaning.{meaning, after, reply}
+use Rattle.pbd_world.specs.World.{World}
+use Rattle.pbd_world.specs.Meaning.{Edit, edited, meaning, after, reply}
 use Rattle.pbd_world.specs.Session.{last_world}
-use Rattle.pbd_laws.specs.Targets.{Target, target, AreApart, AreAllApart}
-use Rattle.pbd_laws.specs.Targets.Target.{OneParticle, OneLink, TheGravity}
-use Rattle.pbd_laws.proofs.Edits.{Edit, edited, edit_of, place_of, same_place, Verdict, verdict, either, told, after-is, reply-is, Agree}
-use Rattle.pbd_laws.proofs.Edits.{edited-agrees, edits-commute}
+use Rattle.pbd_laws.specs.Targets.{Target, place_of, target, AreApart, AreAllApart}
+use Rattle.pbd_laws.proofs.Edits.{Verdict, verdict, either, told, EditOf, edit-of, after-is, reply-is, Agree, edited-agrees, edits-commute}
 
 -- ---- the other command's tests
 
-same_some : (s t : Target) → Some s ≡ Some t → s ≡ t
-same_some s t e = cc
-
-there : (w v : World) (s t : Target) → Some s ≡ Some t → Agree t w v → Agree s w v
-there w v s t e a = subst (λ x. Agree x w v) (sym (same_some s t e)) a
-
-same_tests : (w v : World) (c : Command) (t : Target) → target c ≡ Some t → Agree t w v → verdict v c ≡ verdict w c
-same_tests w v (commands.Step n) t h a = absurd (cc)
-same_tests w v commands.Frame t h a = absurd (cc)
-same_tests w v (commands.Pin i) t h a =
-    let b = there w v (OneParticle i) t h a in
-    let tests : ℕ → Particle → Verdict = λ n p. unless ((nat_le n i, NoParticle) ∷ (p.held, Held) ∷ []) tt in
-    ap (λ n. tests n (particle_at v.particles i)) b.2 ∙ ap (tests (length w.particles)) b.3
-same_tests w v (commands.Unpin i) t h a =
-    let b = there w v (OneParticle i) t h a in
-    let tests : List Track → ℕ → Particle → Verdict =
-    λ ts n p. unless ((nat_le n i, NoParticle) ∷ (not p.held, NotHeld) ∷ (is_tracked ts i, Tracked) ∷ []) tt in
-    ap (λ (ts : List Track). tests ts (length v.particles) (particle_at v.particles i)) b.1
-    ∙ ap (λ n. tests w.tracks n (particle_at v.particles i)) b.2 ∙ ap (tests w.tracks (length w.particles)) b.3
-same_tests w v (commands.Move i to) t h a =
-    let b = there w v (OneParticle i) t h a in
-    let tests : ℤ → List Track → ℕ → Particle → Verdict =
-    λ limit ts n p.
-    unless ((nat_le n i, NoParticle) ∷ (not (is_within limit to), OutOfRange) ∷ (not p.held, NotHeld) ∷ (is_tracked ts i, Tracked) ∷ []) tt
-    in
-    ap (λ limit. tests limit v.tracks (length v.particles) (particle_at v.particles i)) b.0
-    ∙ ap (λ (ts : List Track). tests w.limit ts (length v.particles) (particle_at v.particles i)) b.1
-    ∙ ap (λ n. tests w.limit w.tracks n (particle_at v.particles i)) b.2 ∙ ap (tests w.limit w.tracks (length w.particles)) b.3
-same_tests w v (commands.Cut n) t h a =
-    let b = there w v (OneLink n) t h a in
-    let tests : ℕ → Link → Verdict = λ k l. unless ((nat_le k n, NoLink) ∷ (not l.live, LinkGone) ∷ []) tt in
-    ap (λ k. tests k (link_at v.links n)) b.0 ∙ ap (tests (length w.links)) b.1
-same_tests w v (commands.Gravity g) t h a =
-    ap (λ limit. unless ((not (is_within limit g), OutOfRange) ∷ []) tt) (there w v TheGravity t h a)
-same_tests w v commands.Ledger t h a = absurd (cc)
-same_tests w v commands.Bad t h a = absurd (cc)
+-- the tests of each command read only what agrees, so that each case closes by itself
+same_tests : (w v : World) (c : Command) → Agree (target c) w v → verdict v c ≡ verdict w c
+same_tests w v commands.Frame a = refl
+same_tests w v c a = cc
 
 -- ---- two commands
 
-turned : (c d : Command) → AreApart c d → AreApart d c
+abbrev turned : (c d : Command) → AreApart c d → AreApart d c
 turned c d a = record { first = a.second; second = a.first; first_is = a.second_is; second_is = a.first_is; differ = λ e. a.differ (sym e) }
 
-not_at : (c d : Command) (a : AreApart c d) → place_of (edit_of c) ≢ Some a.second
-not_at c d a e = a.differ (same_some a.first a.second (sym a.first_is ∙ sym (same_place c) ∙ e))
+-- what the one command edits is not what the other names
+not_at : (c d : Command) (a : AreApart c d) (e : EditOf c a.first) → Some (place_of e.edit) ≢ target d
+not_at c d a e h = a.differ (same_some a.first a.second (ap (λ (t : Target). Some t) (sym e.at) ∙ h ∙ a.second_is))
+  where
+    same_some : (s t : Target) → Some s ≡ Some t → s ≡ t
+    same_some s t e = cc
 
 -- a command's verdict is the same after the other
-after_other : (w : World) (c d : Command) (r : Verdict) → AreApart c d → verdict (either r w (edited w (edit_of c))) d ≡ verdict w d
-after_other w c d (Ok u) a = same_tests w (edited w (edit_of c)) d a.second a.second_is
-    (edited-agrees w (edit_of c) a.second (not_at c d a))
-after_other w c d (Err e) a = refl
+after_other : (w : World) (c d : Command) (r : Verdict) (a : AreApart c d) (e : EditOf c a.first)
+    → verdict (either r w (edited w e.edit)) d ≡ verdict w d
+after_other w c d (Ok u) a e = same_tests w (edited w e.edit) d (edited-agrees w e.edit (target d) (not_at c d a e))
+after_other w c d (Err f) a e = refl
 
-same_verdict : (w : World) (c d : Command) → AreApart c d → verdict (after w c) d ≡ verdict w d
-same_verdict w c d a = ap (λ (v : World). verdict v d) (after-is w c a.first a.first_is) ∙ after_other w c d (verdict w c) a
+same_verdict : (w : World) (c d : Command) (a : AreApart c d) → verdict (after w c) d ≡ verdict w d
+same_verdict w c d a =
+    let e = edit-of c a.first a.first_is in
+    ap (λ (v : World). verdict v d) (after-is w c a.first e) ∙ after_other w c d (verdict w c) a e
 
 pub answers-same : (w : World) (c d : Command) → AreApart c d → reply (after w c) d ≡ reply w d
 answers-same w c d a =
-    reply-is (after w c) d a.second a.second_is ∙ ap told (same_verdict w c d a) ∙ sym (reply-is w d a.second a.second_is)
+    let e = edit-of d a.second a.second_is in
+    reply-is (after w c) d a.second e ∙ ap told (same_verdict w c d a) ∙ sym (reply-is w d a.second e)
 
 -- where the one command is, the other follows
-follows : (w : World) (c d : Command) → AreApart c d
-    → after (after w c) d ≡ either (verdict w d) (either (verdict w c) w (edited w (edit_of c)))
-    (edited (either (verdict w c) w (edited w (edit_of c)))
-    (edit_of d))
-follows w c d a =
-    after-is (after w c) d a.second a.second_is
-    ∙ ap (λ (r : Verdict). either r (after w c) (edited (after w c) (edit_of d))) (same_verdict w c d a)
-    ∙ ap (λ (v : World). either (verdict w d) v (edited v (edit_of d))) (after-is w c a.first a.first_is)
+follows : (w : World) (c d : Command) (a : AreApart c d) (e : EditOf c a.first) (f : EditOf d a.second)
+    → after (after w c) d ≡ either (verdict w d) (either (verdict w c) w (edited w e.edit))
+    (edited (either (verdict w c) w (edited w e.edit)) f.edit)
+follows w c d a e f =
+    after-is (after w c) d a.second f
+    ∙ ap (λ (r : Verdict). either r (after w c) (edited (after w c) f.edit)) (same_verdict w c d a)
+    ∙ ap (λ (v : World). either (verdict w d) v (edited v f.edit)) (after-is w c a.first e)
 
 square : (w : World) (e f : Edit) (x y : Verdict) → place_of e ≢ place_of f
     → either y (either x w (edited w e)) (edited (either x w (edited w e)) f)
@@ -100,9 +64,11 @@ square w e f (Err x) (Err y) h = refl
 
 pub two-commute : (w : World) (c d : Command) → AreApart c d → after (after w c) d ≡ after (after w d) c
 two-commute w c d a =
-    follows w c d a
-    ∙ square w (edit_of c) (edit_of d) (verdict w c) (verdict w d) (λ e. not_at c d a (e ∙ same_place d ∙ a.second_is))
-    ∙ sym (follows w d c (turned c d a))
+    let e = edit-of c a.first a.first_is in
+    let f = edit-of d a.second a.second_is in
+    follows w c d a e f
+    ∙ square w e.edit f.edit (verdict w c) (verdict w d) (λ s. a.differ (sym e.at ∙ s ∙ f.at))
+    ∙ sym (follows w d c (turned c d a) f e)
 
 -- ---- many commands
 

@@ -20,21 +20,22 @@ use Rattle.pbd_world.specs.declared.command.Command.TheVariants as commands
 use Rattle.pbd_world.specs.declared.command.Phase.TheVariants as phases
 use Rattle.pbd_world.specs.Particles.{Motion, Moved, all_moved, no_particle, particle_at, placed, effective_weight}
 use Rattle.pbd_world.specs.World.{World, is_tracked}
-use Rattle.pbd_world.specs.Outcomes.{with_fault, unless, one_more, each_from}
+use Rattle.pbd_world.specs.Outcomes.{with_fault, one_more, each_from}
 use Rattle.pbd_world.specs.Tracks.{held_place}
 use Rattle.pbd_world.specs.Bonds.{link_bond, contact_bond, end_of, is_slack, shift_of, correction_of, corrected, one, projected}
 use Rattle.pbd_world.specs.Shapes.{Shape, Way, Shaped, stays, still, shaped_by, way_through, shaped, shapes_of, rubbed, slowed}
 use Rattle.pbd_world.specs.Step.{attached, flown, if_within, predicted, predict, Passing, link_order, contact_order, link_part}
 use Rattle.pbd_world.specs.Step.{contact_part, all_shaped, shape_part, leaves, pass, step}
-use Rattle.pbd_world.specs.Meaning.{refusals, run_steps, steps_of, meaning, after}
+use Rattle.pbd_world.specs.Meaning.{Edit, Deed, deed, edited, steps_of, after}
+use Rattle.pbd_world.specs.Meaning.Deed.{Steps, Edits, Answers}
 use Rattle.pbd_world.specs.Session.{last_world}
 use Rattle.pbd_world.proofs.KeepingOn.{bind-keeps, fault-keeps, turn-keeps, repeat-keeps, each-keeps, length-mapped, length-zipped, zip-map}
 use Rattle.pbd_world.proofs.KeptLemmas.{zip_at, held_first, held_second}
-use Rattle.pbd_world.proofs.CommandBalance.{unless-keeps}
-use Rattle.pbd_laws.specs.Targets.{Target, target}
-use Rattle.pbd_laws.specs.Targets.Target.{OneParticle, OneLink, TheGravity}
-use Rattle.pbd_world.proofs.StepsLead.{step-keeps, done-leads}
-use Rattle.pbd_laws.proofs.Edits.{Edit, edited, edit_of, place_of, same_place, Verdict, verdict, either, after-is, Agree, edited-agrees}
+use Rattle.pbd_laws.specs.Targets.{place_of, place_in, target}
+use Rattle.pbd_laws.specs.Targets.Target.{OneParticle}
+use Rattle.pbd_world.proofs.StepsLead.{step-keeps}
+use Rattle.pbd_world.proofs.Deeds.{Leads, command-leads}
+use Rattle.pbd_laws.proofs.Edits.{edited-agrees}
 use Rattle.pbd_world.proofs.PredictGoes.{untracked}
 
 -- ---- a bond doesn't move a held end
@@ -284,50 +285,35 @@ step_stands i at w h =
     let is = rub_at w.friction s.motion.particles s.touched i (ap (λ (q : Particle). q.held) k.motion.is ∙ h.held) k.flag ∙ k.motion.is in
     record { held = ap (λ (q : Particle). q.held) is ∙ h.held; place = ap (λ (q : Particle). q.at) is ∙ h.place; alone = h.alone })
 
-run_stands : (i : ℕ) (at : Vec3) (w : World) (n : ℕ) → StandsAt i at w → IfOk (run_steps w n) (StandsAt i at)
-run_stands i at w n h =
-    bind-keeps (StandsAt i at) (StandsAt i at) (unless (refusals w (commands.Step n)) w) (steps_of n)
-    (unless-keeps (StandsAt i at) (refusals w (commands.Step n)) w (λ es. h))
-    (λ v k. repeat-keeps (StandsAt i at) step (λ u j. step_stands i at u j) n v k)
+steps_stand : (i : ℕ) (at : Vec3) (w : World) (n : ℕ) → StandsAt i at w → IfOk (steps_of n w) (StandsAt i at)
+steps_stand i at w n h = repeat-keeps (StandsAt i at) step (λ u k. step_stands i at u k) n w h
 
 pub steps-stand : (w : World) (n i : ℕ) → (particle_at w.particles i).held ≡ true → is_tracked w.tracks i ≡ false
     → (particle_at (after w (commands.Step n)).particles i).at ≡ (particle_at w.particles i).at
-unfolding meaning
 steps-stand w n i held alone =
     let at = (particle_at w.particles i).at in
     let h : StandsAt i at w = record { held = held; place = refl; alone = alone } in
-    (done-leads (StandsAt i at) w (run_steps w n) h (run_stands i at w n h)).place
+    (command-leads (StandsAt i at) w (commands.Step n) h (λ es. steps_stand i at w n h)).place
 
-edited_stands : (i : ℕ) (at : Vec3) (w : World) (e : Edit) → place_of e ≢ Some (OneParticle i) → StandsAt i at w
+edited_stands : (i : ℕ) (at : Vec3) (w : World) (e : Edit) → Some (place_of e) ≢ Some (OneParticle i) → StandsAt i at w
     → StandsAt i at (edited w e)
 edited_stands i at w e other h =
-    let a : Agree (OneParticle i) w (edited w e) = edited-agrees w e (OneParticle i) other in
+    let a = edited-agrees w e (Some (OneParticle i)) other in
     record {
-      held = ap (λ (q : Particle). q.held) a.3 ∙ h.held;
-      place = ap (λ (q : Particle). q.at) a.3 ∙ h.place;
-      alone = ap (λ (ts : List Track). is_tracked ts i) a.1 ∙ h.alone;
+      held = ap (λ (q : Particle). q.held) a.named ∙ h.held;
+      place = ap (λ (q : Particle). q.at) a.named ∙ h.place;
+      alone = ap (λ (ts : List Track). is_tracked ts i) a.tracks ∙ h.alone;
     }
 
-named_stands : (i : ℕ) (at : Vec3) (w : World) (c : Command) (t : Target) → target c ≡ Some t → target c ≢ Some (OneParticle i)
-    → StandsAt i at w → StandsAt i at (after w c)
-named_stands i at w c t named other h = subst (StandsAt i at) (sym (after-is w c t named)) (by (verdict w c))
-  where
-    by : (r : Verdict) → StandsAt i at (either r w (edited w (edit_of c)))
-    by (Ok u) = edited_stands i at w (edit_of c) (λ e. other (sym (same_place c) ∙ e)) h
-    by (Err e) = h
+deed_stands : (i : ℕ) (at : Vec3) (w : World) (d : Deed) → place_in d ≢ Some (OneParticle i) → StandsAt i at w
+    → Leads (StandsAt i at) w d
+deed_stands i at w (Steps n) other h = steps_stand i at w n h
+deed_stands i at w (Edits edit) other h = edited_stands i at w edit other h
+deed_stands i at w (Answers reply) other h = tt
 
 command_stands : (i : ℕ) (at : Vec3) (w : World) (c : Command) → target c ≢ Some (OneParticle i) → StandsAt i at w
     → StandsAt i at (after w c)
-unfolding meaning
-command_stands i at w (commands.Step n) other h = done-leads (StandsAt i at) w (run_steps w n) h (run_stands i at w n h)
-command_stands i at w commands.Frame other h = h
-command_stands i at w (commands.Pin j) other h = named_stands i at w (commands.Pin j) (OneParticle j) refl other h
-command_stands i at w (commands.Unpin j) other h = named_stands i at w (commands.Unpin j) (OneParticle j) refl other h
-command_stands i at w (commands.Move j to) other h = named_stands i at w (commands.Move j to) (OneParticle j) refl other h
-command_stands i at w (commands.Cut n) other h = named_stands i at w (commands.Cut n) (OneLink n) refl other h
-command_stands i at w (commands.Gravity g) other h = named_stands i at w (commands.Gravity g) TheGravity refl other h
-command_stands i at w commands.Ledger other h = h
-command_stands i at w commands.Bad other h = h
+command_stands i at w c other h = command-leads (StandsAt i at) w c h (λ es. deed_stands i at w (deed c) other h)
 
 pub session-stands : (i : ℕ) (at : Vec3) (w : World) (cs : List Command) → All (λ c. target c ≢ Some (OneParticle i)) cs → StandsAt i at w
     → StandsAt i at (last_world w cs)

@@ -5,11 +5,11 @@ use Rattle.std.specs.Prelude.{IfSome}
 use Rattle.std.proofs.lemmas.Bool.{eqb-true, leb-true, ltb-false, le-ltb}
 use Rattle.std.proofs.lemmas.Bool.Decides.{nat_tests}
 use Rattle.pbd_world.specs.declared.command.Command.{Command}
-use Rattle.pbd_world.specs.declared.verb.Verb.{Verb}
-use Rattle.pbd_world.specs.declared.verb.OperandKind.{OperandKind}
-use Rattle.pbd_world.specs.declared.verb.OperandKind.TheVariants as kinds
-use Rattle.pbd_world.specs.declared.verb.Operands.{Operands}
-use Rattle.pbd_world.specs.declared.verb.Operands.TheVariants.{Nothing, Number, Vector, NumberAndVector}
+use Rattle.pbd_world.specs.declared.command.Verb.{Verb}
+use Rattle.pbd_world.specs.declared.command.OperandKind.{OperandKind}
+use Rattle.pbd_world.specs.declared.command.OperandKind.TheVariants as kinds
+use Rattle.pbd_world.specs.declared.command.Operands.{Operands}
+use Rattle.pbd_world.specs.declared.command.Operands.TheVariants.{Nothing, Number, Vector, NumberAndVector}
 use Rattle.pbd_world.specs.Verbs.{row, verb_coded, verb_and_operands, command_with, kind_of}
 use Rattle.pbd_world.proofs.VerbLaws.{verb_found, code_is, together, parted}
 use Rattle.pbd_world.specs.declared.command.FrameSums.{FrameSums}

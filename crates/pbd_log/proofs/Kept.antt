@@ -2,12 +2,13 @@
 use Rattle.std.proofs.Common.{◌≡◌, sym, subst, refl, ℕ, ◌⊎◌, inl, inr, false, eqb, List, [], ◌∷◌, map, None, Result, Ok, Err}
 use Rattle.std.specs.List.{AllByRecursion}
 use Rattle.pbd_world.specs.declared.command.Command.{Command}
-use Rattle.pbd_world.specs.declared.command.Command.TheVariants.{Step, Frame, Pin, Unpin, Move, Cut, Gravity, Ledger, Bad}
+use Rattle.pbd_world.specs.declared.command.Command.TheVariants.{Step}
 use Rattle.pbd_world.specs.declared.command.Refusal.{Refusal}
 use Rattle.pbd_world.specs.declared.command.Refusal.TheVariants as refusals
 use Rattle.pbd_world.specs.declared.command.Reply.{Reply}
+use Rattle.pbd_world.specs.declared.command.Reply.TheVariants as replies
 use Rattle.pbd_world.specs.World.{World}
-use Rattle.pbd_world.specs.Meaning.{done_or_refused, run_steps, meaning, after, reply}
+use Rattle.pbd_world.specs.Meaning.{outcome, done_or_refused, meaning, after, reply}
 use Rattle.pbd_world.specs.Replay.{LogEntry, kept_sums, entry, logged}
 use Rattle.pbd_log.specs.declared.entry.Entry.{Entry}
 use Rattle.pbd_log.specs.Entries.{refusal_answer, answer_of, has_sums, StandExactly, IsGrammatical, entry_of}
@@ -15,28 +16,18 @@ use Rattle.pbd_log.proofs.Answers.{answer_is}
 
 -- a refusal's number isn't 0
 some_number : (r : Refusal) → eqb (refusal_answer r).number 0 ≡ false
-some_number refusals.BadCommand = refl
-some_number refusals.NoParticle = refl
-some_number refusals.NoLink = refl
-some_number refusals.LinkGone = refl
-some_number refusals.OutOfRange = refl
-some_number refusals.NotHeld = refl
-some_number refusals.Held = refl
-some_number refusals.Tracked = refl
-some_number refusals.BadCount = refl
-some_number refusals.StepLimit = refl
-some_number (refusals.LeavesRange step phase element) = refl
 some_number (refusals.TooManyContacts step) = refl
+some_number r = refl
 
 step_stands : (v w : World) (n : ℕ) (r : Result World Refusal)
-    → StandExactly (has_sums (Step n) (answer_of (done_or_refused w r).1).number) (kept_sums v (Step n) (done_or_refused w r).1)
+    → StandExactly (has_sums (Step n) (answer_of (done_or_refused w replies.Done r).1).number) (kept_sums v (Step n) (done_or_refused w replies.Done r).1)
 step_stands v w n (Ok x) = refl
 step_stands v w n (Err refusal) = some_number refusal
 
 steps_stand : (w : World) (n : ℕ)
     → StandExactly (has_sums (Step n) (answer_of (reply w (Step n))).number) (kept_sums (after w (Step n)) (Step n) (reply w (Step n)))
 unfolding meaning
-steps_stand w n = step_stands (done_or_refused w (run_steps w n)).0 w n (run_steps w n)
+steps_stand w n = step_stands (after w (Step n)) w n (outcome w (Step n))
 
 -- no sums are kept of a command, whatever is answered
 pub record HasNoSums (c : Command) : Type 0 where
@@ -45,14 +36,7 @@ pub record HasNoSums (c : Command) : Type 0 where
 
 pub steps_or_not : (c : Command) → ((n : ℕ) × (c ≡ Step n)) ⊎ HasNoSums c
 steps_or_not (Step n) = inl (n, refl)
-steps_or_not Frame = inr (record { stand = λ number. refl; kept = λ w r. refl })
-steps_or_not (Pin i) = inr (record { stand = λ number. refl; kept = λ w r. refl })
-steps_or_not (Unpin i) = inr (record { stand = λ number. refl; kept = λ w r. refl })
-steps_or_not (Move i to) = inr (record { stand = λ number. refl; kept = λ w r. refl })
-steps_or_not (Cut n) = inr (record { stand = λ number. refl; kept = λ w r. refl })
-steps_or_not (Gravity g) = inr (record { stand = λ number. refl; kept = λ w r. refl })
-steps_or_not Ledger = inr (record { stand = λ number. refl; kept = λ w r. refl })
-steps_or_not Bad = inr (record { stand = λ number. refl; kept = λ w r. refl })
+steps_or_not c = inr (record { stand = λ number. refl; kept = λ w r. refl })
 
 stands : (w : World) (c : Command) → StandExactly (has_sums c (answer_of (reply w c)).number) (kept_sums (after w c) c (reply w c))
 stands w c = elim (steps_or_not c) [

@@ -14,8 +14,8 @@ use Rattle.pbd_world.specs.declared.command.Refusal.TheVariants as refusals
 use Rattle.pbd_world.specs.declared.command.Reply.{Reply}
 use Rattle.pbd_world.specs.declared.command.Reply.TheVariants as replies
 use Rattle.pbd_world.specs.declared.command.FrameSums.{FrameSums}
-use Rattle.pbd_world.specs.declared.verb.Operands.{Operands}
-use Rattle.pbd_world.specs.declared.verb.Operands.TheVariants.{Nothing, Number, Vector, NumberAndVector}
+use Rattle.pbd_world.specs.declared.command.Operands.{Operands}
+use Rattle.pbd_world.specs.declared.command.Operands.TheVariants.{Nothing, Number, Vector, NumberAndVector}
 use Rattle.pbd_world.specs.Verbs.{row, verb_and_operands}
 use Rattle.pbd_world.specs.Meaning.{refusal_number}
 use Rattle.pbd_world.specs.Replay.{LogEntry}

@@ -1,8 +1,8 @@
 -- What a session keeps of a script's commands can be written in a log.
 use Rattle.std.proofs.Common.{sym, subst, inl, inr}
-use Rattle.std.proofs.Common.{refl, ℕ, ◌+◌, ◌*◌, ◌<◌, ◌≤◌, ◌^◌, Bool, true, false, cond, List, [], ◌∷◌, length, map, None, Result, Ok, Err}
+use Rattle.std.proofs.Common.{refl, ℕ, ◌+◌, ◌*◌, ◌<◌, ◌≤◌, ◌^◌, List, [], ◌∷◌, length, map, None, Result, Ok, Err}
 use Rattle.std.proofs.Common.{arith, unsigned_abs}
-use Rattle.std.specs.Prelude.{IsTrue, filter, fold, nat_le}
+use Rattle.std.specs.Prelude.{IsTrue, fold, nat_le}
 use Rattle.std.specs.List.{AllByRecursion}
 use Rattle.std.proofs.lemmas.Bool.{and_parts}
 use Rattle.pbd_num.specs.declared.Vec3.{Vec3}
@@ -10,15 +10,14 @@ use Rattle.pbd_num.specs.Vectors.{Within, axes, is_within, plus, zero_vector}
 use Rattle.pbd_num.proofs.Ranges.{within_facts, wider}
 use Rattle.pbd_num.proofs.Sizes.{fits, size-add}
 use Rattle.pbd_world.specs.declared.parts.Particle.{Particle}
-use Rattle.pbd_world.specs.declared.parts.Link.{Link}
 use Rattle.pbd_world.specs.declared.command.Command.{Command}
 use Rattle.pbd_world.specs.declared.command.Command.TheVariants.{Step}
 use Rattle.pbd_world.specs.declared.command.Refusal.{Refusal}
 use Rattle.pbd_world.specs.declared.command.Refusal.TheVariants as refusals
 use Rattle.pbd_world.specs.declared.command.Reply.{Reply}
 use Rattle.pbd_world.specs.declared.command.Reply.TheVariants as replies
-use Rattle.pbd_world.specs.World.{World, IsSound, live_count, parts_of}
-use Rattle.pbd_world.specs.Meaning.{after, done_or_refused, meaning, reply, run_steps}
+use Rattle.pbd_world.specs.World.{World, IsSound, parts_of}
+use Rattle.pbd_world.specs.Meaning.{after, done_or_refused, meaning, outcome, reply}
 use Rattle.pbd_world.specs.Replay.{entry, frame_sums, kept_sums, logged, sum_over, LogEntry}
 use Rattle.pbd_world.proofs.CommandSound.{command-sound}
 use Rattle.pbd_world.proofs.KeptLemmas.{IsLimit}
@@ -80,24 +79,13 @@ sums_fit w sound =
 -- ---- answers
 
 refusal_widths : (r : Refusal) → RefusalFits r → ((refusal_answer r).step < 2 ^ 64) × ((refusal_answer r).element < 2 ^ 32)
-refusal_widths refusals.BadCommand fit = (omega arith, omega arith)
-refusal_widths refusals.NoParticle fit = (omega arith, omega arith)
-refusal_widths refusals.NoLink fit = (omega arith, omega arith)
-refusal_widths refusals.LinkGone fit = (omega arith, omega arith)
-refusal_widths refusals.OutOfRange fit = (omega arith, omega arith)
-refusal_widths refusals.NotHeld fit = (omega arith, omega arith)
-refusal_widths refusals.Held fit = (omega arith, omega arith)
-refusal_widths refusals.Tracked fit = (omega arith, omega arith)
-refusal_widths refusals.BadCount fit = (omega arith, omega arith)
-refusal_widths refusals.StepLimit fit = (omega arith, omega arith)
 refusal_widths (refusals.LeavesRange step phase element) fit = fit
 refusal_widths (refusals.TooManyContacts step) fit = (fit, omega arith)
+refusal_widths refusal fit = (omega arith, omega arith)
 
 answer_widths : (r : Reply) → ReplyFits r → ((answer_of r).step < 2 ^ 64) × ((answer_of r).element < 2 ^ 32)
-answer_widths replies.Done fit = (omega arith, omega arith)
-answer_widths replies.Frame fit = (omega arith, omega arith)
-answer_widths replies.Ledger fit = (omega arith, omega arith)
 answer_widths (replies.Refused refusal) fit = refusal_widths refusal fit
+answer_widths r fit = (omega arith, omega arith)
 
 -- ---- entries
 
@@ -106,7 +94,7 @@ bare_widths : (c : Command) (r : Reply) → CommandFits c → ReplyFits r
 bare_widths c r fit replied = let a = answer_widths r replied in record { command = fit; step = a.0; element = a.1; sums = tt }
 
 step_widths : (w : World) (n : ℕ) (r : Result World Refusal)
-    → (let d = done_or_refused w r in CommandFits (Step n) → ReplyFits d.1 → SumsFit (frame_sums d.0)
+    → (let d = done_or_refused w replies.Done r in CommandFits (Step n) → ReplyFits d.1 → SumsFit (frame_sums d.0)
     → HasWidths (entry_of (record { command = Step n; answer = d.1; sums = kept_sums d.0 (Step n) d.1 })))
 step_widths w n (Ok v) fit replied sums = record { command = fit; step = omega arith; element = omega arith; sums = sums }
 step_widths w n (Err refusal) fit replied sums = bare_widths (Step n) (replies.Refused refusal) fit replied
@@ -116,7 +104,7 @@ HaveWidths w c = CommandFits c → ReplyFits (reply w c) → SumsFit (frame_sums
 
 steps_have_widths : (w : World) (n : ℕ) → HaveWidths w (Step n)
 unfolding meaning
-steps_have_widths w n = step_widths w n (run_steps w n)
+steps_have_widths w n = step_widths w n (outcome w (Step n))
 
 entry_widths : (w : World) (c : Command) → HaveWidths w c
 entry_widths w c = elim (steps_or_not c) [

@@ -18,7 +18,7 @@ use Rattle.pbd_world.specs.Session.{last_world, session_text}
 use Rattle.pbd_world.specs.Text.{refusal_line, text}
 use Rattle.pbd_world.specs.Valid.{is_valid}
 use Rattle.pbd_world.specs.World.{HaveWeight, World, opened}
-use Rattle.pbd_world.proofs.KeepingLemmas.{refused-keeps}
+use Rattle.pbd_world.proofs.Deeds.{refused-keeps}
 use Rattle.pbd_world.proofs.SessionSound.{session-sound, session-scene, undamped-balance}
 use Rattle.pbd_script.specs.Commands.{commands}
 use Rattle.pbd_outcome.specs.declared.job.Job.TheVariants as jobs

@@ -1,10 +1,10 @@
 -- What a refusal tells of a step fits its types.
 use Rattle.std.proofs.Common.{◌≡◌, ◌∙◌, refl, ℕ, zero, suc, ◌+◌, ◌<◌, ◌≤◌, ◌^◌, Bool, true, false, cond, List, [], ◌∷◌, length, map, Option}
 use Rattle.std.proofs.Common.{Some, None, Result, Ok, Err, arith}
-use Rattle.std.specs.Prelude.{IfOk, IfErr, MatchResult, nat_le, nat_lt}
-use Rattle.std.specs.List.{AllByRecursion}
+use Rattle.std.specs.Prelude.{IfOk, IfErr, IsTrue, MatchResult, nat_le, nat_lt}
+use Rattle.std.specs.List.{AllByRecursion, list_all}
 use Rattle.std.proofs.lemmas.List.{length-set}
-use Rattle.std.proofs.lemmas.Bool.{ltb-false, leb-true, and_parts}
+use Rattle.std.proofs.lemmas.Bool.{ltb-false, leb-true, and_parts, false≢true}
 use Rattle.pbd_world.specs.declared.parts.Particle.{Particle}
 use Rattle.pbd_world.specs.declared.parts.Link.{Link}
 use Rattle.pbd_world.specs.declared.bond.Bond.{Bond}
@@ -19,7 +19,7 @@ use Rattle.pbd_world.specs.declared.command.Phase.TheVariants as phases
 use Rattle.pbd_world.specs.declared.command.Refusal.{Refusal}
 use Rattle.pbd_world.specs.declared.command.Refusal.TheVariants.{LeavesRange, TooManyContacts}
 use Rattle.pbd_world.specs.Outcomes.{◌>>=◌, with_fault, in_turn, repeated, one_more, each_from, unless}
-use Rattle.pbd_world.specs.Particles.{Motion, Moved, all_moved, particle_at}
+use Rattle.pbd_world.specs.Particles.{Motion, Moved, all_moved}
 use Rattle.pbd_world.specs.World.{World, AreOfOneScene, IsSound, parts_of}
 use Rattle.pbd_world.specs.Bonds.{corrected, correction_at, link_bond, contact_bond, one, projected}
 use Rattle.pbd_world.specs.Colours.{order}
@@ -27,11 +27,13 @@ use Rattle.pbd_world.specs.Contacts.{contacts_of, link_pairs, live_flags}
 use Rattle.pbd_world.specs.Shapes.{Shaped, shaped, shapes_of}
 use Rattle.pbd_world.specs.Step.{step, leaves, predict, predicted, after_contacts, link_part, contact_part, shape_part, all_shaped, pass}
 use Rattle.pbd_world.specs.Step.{untouched, settled, rub, Passing}
-use Rattle.pbd_world.specs.Meaning.{steps_of, run_steps, refusals, meaning, reply, done_or_refused, pinned, unpinned, put_at, without_link}
+use Rattle.pbd_world.specs.Meaning.{Deed, deed, edited, refusals, steps_of, unless_refused, outcome, answer, done_or_refused, meaning, reply}
+use Rattle.pbd_world.specs.Meaning.Deed.{Steps, Edits, Answers}
 use Rattle.pbd_world.proofs.KeepingOn.{length-mapped}
 use Rattle.pbd_world.proofs.StepBalance.{all-order}
 use Rattle.pbd_world.proofs.StepSound.{step_sound}
-use Rattle.pbd_world.proofs.CommandBalance.{unless-keeps}
+use Rattle.pbd_world.proofs.Deeds.{NoneHolds, unless-keeps}
+use Rattle.pbd_world.proofs.Allowed.{IsAllowed, allowed}
 use Rattle.pbd_world.proofs.CountingOn.{ok_weaker}
 use Rattle.pbd_world.proofs.WorldParts.{formed}
 
@@ -212,25 +214,39 @@ steps_end (suc n) w sound within =
     (step_ends w (small w sound)))
     (λ v so_far. steps_end n v so_far.0 so_far.1)
 
-first_ends : {A : Type 0} (P : A → Type 0) (test : Bool) (refusal : Refusal) (r : Result A Refusal) → IfOk (cond test (Err refusal) r) P
-    → RefusalFits refusal → (IfOk r P → MatchResult r P RefusalFits) → MatchResult (cond test (Err refusal) r) P RefusalFits
-first_ends P true refusal r h fits next = fits
-first_ends P false refusal r h fits next = next h
+-- ---- what refuses a command before its steps
 
-unless_ends : {A : Type 0} (P : A → Type 0) (tests : List (Bool × Refusal)) (x : A) → IfOk (unless tests x) P
-    → AllByRecursion (λ (t : Bool × Refusal). RefusalFits t.1) tests → MatchResult (unless tests x) P RefusalFits
-unless_ends P [] x h fits = h
-unless_ends P (test ∷ tests) x h fits = first_ends P test.0 test.1 (unless tests x) h fits.0 (λ later. unless_ends P tests x later fits.1)
+-- it tells of no step
+abbrev pub is_plain : Refusal → Bool
+is_plain (LeavesRange step phase element) = false
+is_plain (TooManyContacts step) = false
+is_plain refusal = true
 
-run_ends : (w : World) (n : ℕ) → IsSound w → IfErr (run_steps w n) RefusalFits
-run_ends w n sound =
-    only_err (λ v. Unit {0}) RefusalFits (run_steps w n)
-    (bind_ends (λ v. IsSound v × (v.steps + n ≤ 1000000)) (λ v. Unit {0}) RefusalFits (unless (refusals w (commands.Step n)) w) (steps_of n)
-    (unless_ends (λ v. IsSound v × (v.steps + n ≤ 1000000)) (refusals w (commands.Step n)) w
-    (unless-keeps (λ v. IsSound v × (v.steps + n ≤ 1000000)) (refusals w (commands.Step n)) w
-    (λ es. (sound, ltb-false 1000000 (w.steps + n) es.1.0)))
-    (tt, (tt, tt)))
-    (λ v so_far. steps_end n v so_far.0 so_far.1))
+pub tests_plain : (w : World) (c : Command) → IsTrue (list_all (λ (t : Bool × Refusal). is_plain t.1) (refusals w c))
+tests_plain w commands.Bad = refl
+tests_plain w c = refl
+
+-- what holds of every plain refusal holds of those of plain tests
+pub all_plain : (P : Refusal → Type 0) → ((refusal : Refusal) → IsTrue (is_plain refusal) → P refusal) → (tests : List (Bool × Refusal))
+    → IsTrue (list_all (λ (t : Bool × Refusal). is_plain t.1) tests) → AllByRecursion (λ (t : Bool × Refusal). P t.1) tests
+all_plain P h [] plain = tt
+all_plain P h (test ∷ tests) plain =
+    let both = and_parts (is_plain test.1) (list_all (λ (t : Bool × Refusal). is_plain t.1) tests) plain in
+    (h test.1 both.0, all_plain P h tests both.1)
+
+plain_fits : (refusal : Refusal) → IsTrue (is_plain refusal) → RefusalFits refusal
+plain_fits (LeavesRange step phase element) plain = absurd (false≢true plain)
+plain_fits (TooManyContacts step) plain = absurd (false≢true plain)
+plain_fits refusal plain = tt
+
+pub tests_end : {A : Type 0} (P : Refusal → Type 0) (tests : List (Bool × Refusal)) (x : A)
+    → AllByRecursion (λ (t : Bool × Refusal). P t.1) tests → IfErr (unless tests x) P
+tests_end P [] x all = tt
+tests_end P (test ∷ tests) x all = by test.0 (tests_end P tests x all.1)
+  where
+    by : (b : Bool) → IfErr (unless tests x) P → IfErr (cond b (Err test.1) (unless tests x)) P
+    by true rest = all.0
+    by false rest = rest
 
 -- ---- every reply
 
@@ -238,26 +254,29 @@ abbrev pub ReplyFits : Reply → Type 0
 ReplyFits (replies.Refused refusal) = RefusalFits refusal
 ReplyFits reply = Unit {0}
 
-done_fits : (w : World) (r : Result World Refusal) → IfErr r RefusalFits → ReplyFits (done_or_refused w r).1
-done_fits w (Ok v) fits = tt
-done_fits w (Err refusal) fits = fits
+deed_ends : (w : World) (tests : List (Bool × Refusal)) (d : Deed) → IsSound w
+    → AllByRecursion (λ (t : Bool × Refusal). RefusalFits t.1) tests → (NoneHolds tests → IsAllowed w d)
+    → IfErr (unless_refused w tests d) RefusalFits
+deed_ends w tests (Steps n) sound fit can =
+    only_err (λ v. Unit {0}) RefusalFits (unless tests w >>= steps_of n)
+    (bind_ends (λ v. IsSound v × (v.steps + n ≤ 1000000)) (λ v. Unit {0}) RefusalFits (unless tests w) (steps_of n)
+    (both_ends (λ v. IsSound v × (v.steps + n ≤ 1000000)) RefusalFits (unless tests w)
+    (unless-keeps (λ v. IsSound v × (v.steps + n ≤ 1000000)) tests w (λ es. (sound, (can es).1)))
+    (tests_end RefusalFits tests w fit))
+    (λ v so_far. steps_end n v so_far.0 so_far.1))
+deed_ends w tests (Edits edit) sound fit can = tests_end RefusalFits tests (edited w edit) fit
+deed_ends w tests (Answers told) sound fit can = tests_end RefusalFits tests w fit
 
-plain_fits : (w v : World) (tests : List (Bool × Refusal)) → AllByRecursion (λ (t : Bool × Refusal). RefusalFits t.1) tests
-    → ReplyFits (done_or_refused w (unless tests v)).1
-plain_fits w v tests fits = done_fits w (unless tests v)
-    (only_err (λ v. Unit {0}) RefusalFits (unless tests v) (unless_ends (λ v. Unit {0}) tests v
-    (unless-keeps (λ v. Unit {0}) tests v (λ es. tt)) fits))
+answer_fits : (c : Command) → ReplyFits (answer (deed c))
+answer_fits commands.Bad = tt
+answer_fits c = tt
+
+done_fits : (w : World) (a : Reply) (r : Result World Refusal) → ReplyFits a → IfErr r RefusalFits → ReplyFits (done_or_refused w a r).1
+done_fits w a (Ok v) answered fits = answered
+done_fits w a (Err refusal) answered fits = fits
 
 pub reply_fits : (w : World) (c : Command) → IsSound w → ReplyFits (reply w c)
 unfolding meaning
-reply_fits w (commands.Step n) sound = done_fits w (run_steps w n) (run_ends w n sound)
-reply_fits w commands.Frame sound = tt
-reply_fits w (commands.Pin i) sound = plain_fits w (pinned w i (particle_at w.particles i)) (refusals w (commands.Pin i)) (tt, (tt, tt))
-reply_fits w (commands.Unpin i) sound = plain_fits w (unpinned w i (particle_at w.particles i)) (refusals w (commands.Unpin i))
-    (tt, (tt, (tt, tt)))
-reply_fits w (commands.Move i to) sound = plain_fits w (put_at w i (particle_at w.particles i) to) (refusals w (commands.Move i to))
-    (tt, (tt, (tt, (tt, tt))))
-reply_fits w (commands.Cut l) sound = plain_fits w (without_link w l) (refusals w (commands.Cut l)) (tt, (tt, tt))
-reply_fits w (commands.Gravity g) sound = plain_fits w (record w { gravity = g }) (refusals w (commands.Gravity g)) (tt, tt)
-reply_fits w commands.Ledger sound = tt
-reply_fits w commands.Bad sound = tt
+reply_fits w c sound =
+    done_fits w (answer (deed c)) (outcome w c) (answer_fits c)
+    (deed_ends w (refusals w c) (deed c) sound (all_plain RefusalFits plain_fits (refusals w c) (tests_plain w c)) (allowed w c sound))

@@ -11,10 +11,10 @@ use Rattle.pbd_num.specs.declared.Vec3.{Vec3}
 use Rattle.pbd_num.proofs.Sizes.{fits, size-neg}
 use Rattle.pbd_world.specs.declared.command.Command.{Command}
 use Rattle.pbd_world.specs.declared.command.Command.TheVariants.{Bad}
-use Rattle.pbd_world.specs.declared.verb.OperandKind.{OperandKind}
-use Rattle.pbd_world.specs.declared.verb.OperandKind.TheVariants as kinds
-use Rattle.pbd_world.specs.declared.verb.Operands.{Operands}
-use Rattle.pbd_world.specs.declared.verb.Operands.TheVariants.{Nothing, Number, Vector, NumberAndVector}
+use Rattle.pbd_world.specs.declared.command.OperandKind.{OperandKind}
+use Rattle.pbd_world.specs.declared.command.OperandKind.TheVariants as kinds
+use Rattle.pbd_world.specs.declared.command.Operands.{Operands}
+use Rattle.pbd_world.specs.declared.command.Operands.TheVariants.{Nothing, Number, Vector, NumberAndVector}
 use Rattle.pbd_world.specs.Verbs.{row}
 use Rattle.pbd_script.specs.Lines.{pieces, words, is_digit, value, count, is_count, number, only_count}
 use Rattle.pbd_script.specs.Commands.{nothing, vector_of, only_vector, number_and_vector, operands_in, form, words_command, line_command, commands}

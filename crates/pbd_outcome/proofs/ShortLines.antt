@@ -11,11 +11,11 @@ use Rattle.std.proofs.lemmas.Bool.{leb-true}
 use Rattle.pbd_num.specs.declared.Vec3.{Vec3}
 use Rattle.pbd_world.specs.declared.command.Command.{Command}
 use Rattle.pbd_world.specs.declared.command.Command.TheVariants.{Bad}
-use Rattle.pbd_world.specs.declared.verb.Verb.{Verb}
-use Rattle.pbd_world.specs.declared.verb.OperandKind.{OperandKind}
-use Rattle.pbd_world.specs.declared.verb.OperandKind.TheVariants as kinds
-use Rattle.pbd_world.specs.declared.verb.Operands.{Operands}
-use Rattle.pbd_world.specs.declared.verb.Operands.TheVariants.{Nothing, Number, Vector, NumberAndVector}
+use Rattle.pbd_world.specs.declared.command.Verb.{Verb}
+use Rattle.pbd_world.specs.declared.command.OperandKind.{OperandKind}
+use Rattle.pbd_world.specs.declared.command.OperandKind.TheVariants as kinds
+use Rattle.pbd_world.specs.declared.command.Operands.{Operands}
+use Rattle.pbd_world.specs.declared.command.Operands.TheVariants.{Nothing, Number, Vector, NumberAndVector}
 use Rattle.pbd_world.specs.Verbs.{TableRow, row, verb_named, verb_and_operands, command_with}
 use Rattle.pbd_world.proofs.VerbLaws.{rows_pass, word_is, parted}
 use Rattle.pbd_script.specs.Lines.{pieces, words, is_blank, count, number, only_count}

@@ -1,36 +1,39 @@
 -- The entries of a session take at most as many bytes as their commands allow, and the sums of each step besides.
-use Rattle.std.proofs.Common.{◌≡◌, ap, refl, ℕ, zero, suc, ◌+◌, ◌*◌, ◌≤◌, Bool, true, false, cond, List, [], ◌∷◌, ◌++◌, length, Some, None}
-use Rattle.std.proofs.Common.{Result, Ok, Err, ℤ, arith}
-use Rattle.std.specs.Prelude.{IfOk, ◌==◌, ◌&&◌, not, nat_le, nat_lt, unsigned_abs}
-use Rattle.std.specs.List.{flat_map}
+use Rattle.std.proofs.Common.{◌≡◌, ◌≢◌, refl, sym, subst, ℕ, zero, suc, ◌+◌, ◌*◌, ◌≤◌, Bool, true, false, cond, List, [], ◌∷◌, ◌++◌, length}
+use Rattle.std.proofs.Common.{Some, None, Result, Ok, Err, ℤ, arith}
+use Rattle.std.specs.Prelude.{IfOk, IfErr, IsTrue, ◌==◌, ◌&&◌, not, nat_le, unsigned_abs}
+use Rattle.std.specs.List.{flat_map, AllByRecursion}
 use Rattle.std.proofs.lemmas.List.{length-append}
-use Rattle.std.proofs.lemmas.Bool.{ltb-false, leb-true, and_parts}
+use Rattle.std.proofs.lemmas.Bool.{ltb-false, leb-true, and_parts, false≢true}
 use Rattle.std.specs.Int.{bytes_high_first}
 use Rattle.pbd_num.specs.declared.Vec3.{Vec3}
 use Rattle.pbd_world.specs.declared.command.Command.{Command}
-use Rattle.pbd_world.specs.declared.command.Command.TheVariants.{Step, Frame, Pin, Unpin, Move, Cut, Gravity, Ledger, Bad}
-use Rattle.pbd_world.specs.declared.verb.Operands.TheVariants.{Nothing, Number, Vector, NumberAndVector}
-use Rattle.pbd_world.specs.Verbs.{verb_and_operands}
+use Rattle.pbd_world.specs.declared.command.Command.TheVariants.{Step, Bad}
+use Rattle.pbd_world.specs.declared.command.Operands.{Operands}
+use Rattle.pbd_world.specs.declared.command.Operands.TheVariants.{Nothing, Number, Vector, NumberAndVector}
 use Rattle.pbd_world.specs.declared.command.Refusal.{Refusal}
-use Rattle.pbd_world.specs.declared.command.Refusal.TheVariants.{TooManyContacts}
-use Rattle.pbd_world.specs.declared.command.Phase.TheVariants as phases
-use Rattle.pbd_world.specs.Outcomes.{◌>>=◌, with_fault, repeated, unless}
-use Rattle.pbd_world.specs.Particles.{Motion, particle_at}
+use Rattle.pbd_world.specs.declared.command.Refusal.TheVariants.{LeavesRange, TooManyContacts}
+use Rattle.pbd_world.specs.declared.command.Reply.{Reply}
+use Rattle.pbd_world.specs.declared.command.Reply.TheVariants as replies
+use Rattle.pbd_world.specs.Verbs.{verb_and_operands}
+use Rattle.pbd_world.specs.Outcomes.{repeated}
 use Rattle.pbd_world.specs.World.{World}
-use Rattle.pbd_world.specs.Contacts.{contacts_of}
-use Rattle.pbd_world.specs.Step.{step, leaves, predict, after_contacts, pass, untouched, settled, rub}
-use Rattle.pbd_world.specs.Meaning.{meaning, after, done_or_refused, steps_of, run_steps, refusals, pin, unpin, place_held, cut}
-use Rattle.pbd_world.specs.Meaning.{set_gravity, pinned, unpinned, put_at, without_link}
+use Rattle.pbd_world.specs.Step.{step}
+use Rattle.pbd_world.specs.Meaning.{Deed, deed, edited, refusals, steps_of, unless_refused, outcome, answer, done_or_refused}
+use Rattle.pbd_world.specs.Meaning.{meaning, after, reply}
+use Rattle.pbd_world.specs.Meaning.Edit.{OnParticle}
+use Rattle.pbd_world.specs.Meaning.Deed.{Steps, Edits, Answers}
 use Rattle.pbd_world.specs.Replay.{entry, kept_sums, frame_sums}
 use Rattle.pbd_log.specs.declared.entry.Answer.{Answer}
 use Rattle.pbd_log.specs.declared.entry.Entry.{Entry}
-use Rattle.pbd_log.specs.Entries.{number_bytes, signed_bytes, vector_bytes, command_bytes, plain, refusal_answer, answer_bytes, axes_bytes}
-use Rattle.pbd_log.specs.Entries.{sums_bytes, optional_bytes, entry_bytes, entry_of}
+use Rattle.pbd_log.specs.Entries.{number_bytes, signed_bytes, vector_bytes, operand_bytes, command_bytes, plain, refusal_answer, answer_of}
+use Rattle.pbd_log.specs.Entries.{answer_bytes, axes_bytes, sums_bytes, optional_bytes, entry_bytes, entry_of}
 use Rattle.pbd_log.specs.Logs.{opening_bytes, header_bytes, end_bytes}
 use Rattle.pbd_world.proofs.KeepingOn.{bind-keeps}
 use Rattle.pbd_world.proofs.CountingOn.{ok_weaker}
-use Rattle.pbd_world.proofs.CommandBalance.{unless-keeps}
+use Rattle.pbd_world.proofs.Deeds.{Leads, unless-goes_on, command-leads}
 use Rattle.pbd_session.specs.Recording.{entries_of, log_bytes}
+use Rattle.pbd_outcome.proofs.RefusalFits.{is_plain, tests_plain, all_plain, tests_end}
 use Rattle.pbd_outcome.proofs.ShortLines.{bytes_with, most_bytes, all_bytes}
 use Rattle.pbd_world.proofs.StepsLead.{step_counts}
 
@@ -94,44 +97,28 @@ entry_length e = omega (
   length-append (command_bytes e.command) (answer_bytes e.answer),
 )
 
--- any answer fits behind the command
-abbrev HasRoom : Command → Type 0
-HasRoom c = length (command_bytes c) + 14 ≤ most_bytes c
-
-number_room : (c : Command) (n : ℕ) → (verb_and_operands c).1 ≡ Number n → HasRoom c
-unfolding command_bytes
-number_room c n is = rw is (omega (arith, number_length 8 n))
-
-vector_room : (c : Command) (v : Vec3) → (verb_and_operands c).1 ≡ Vector v → HasRoom c
-unfolding command_bytes
-vector_room c v is = rw is (omega (arith, vector_length v))
-
-both_room : (c : Command) (n : ℕ) (v : Vec3) → (verb_and_operands c).1 ≡ NumberAndVector n v → HasRoom c
-unfolding command_bytes
-both_room c n v is =
-    rw is (omega (arith, length-append (number_bytes 8 n) (vector_bytes v), number_length 8 n, vector_length v))
-
 abbrev bare : Command → Answer → Entry
 bare c a = record { command = c; answer = a; sums = None }
 
-bare_short : (c : Command) (a : Answer) → HasRoom c → length (entry_bytes (bare c a)) ≤ most_bytes c
-bare_short c a fits = omega (arith, entry_length (bare c a), answer_short a)
+-- there is room for one byte more behind a command
+operands_room : (o : Operands) → length (operand_bytes o) + 2 ≤ bytes_with o
+operands_room Nothing = omega arith
+operands_room (Number n) = omega (arith, number_length 8 n)
+operands_room (Vector v) = omega (arith, vector_length v)
+operands_room (NumberAndVector n v) =
+    omega (arith, length-append (number_bytes 8 n) (vector_bytes v), number_length 8 n, vector_length v)
+
+command_room : (c : Command) → length (command_bytes c) + 1 ≤ most_bytes c
+unfolding command_bytes
+command_room c = omega (arith, operands_room (verb_and_operands c).1)
 
 step_length : (n : ℕ) → length (command_bytes (Step n)) ≡ 9
 unfolding command_bytes
 step_length n = omega (arith, number_length 8 n)
 
-bare_length : (c : Command) → (verb_and_operands c).1 ≡ Nothing → length (command_bytes c) ≡ 1
-unfolding command_bytes
-bare_length c is = rw is refl
-
 done_length : length (answer_bytes (plain 0)) ≡ 1
 unfolding answer_bytes
 done_length = refl
-
-bad_answer : length (answer_bytes (plain 1)) ≡ 1
-unfolding answer_bytes
-bad_answer = refl
 
 -- ---- the steps of a world rise by those that were done
 
@@ -151,19 +138,14 @@ holds : (test : Bool) → not test ≡ false → test ≡ true
 holds true is = refl
 holds false is = cc
 
-abbrev CanStep : ℕ → World → Type 0
-CanStep n w = (1 ≤ n) × (w.steps + n ≤ 1000000)
-
-can_step : (w : World) (n : ℕ) → IfOk (unless (refusals w (Step n)) w) (λ v. CanStep n v × (v.steps ≡ w.steps))
-can_step w n = unless-keeps (λ v. CanStep n v × (v.steps ≡ w.steps)) (refusals w (Step n)) w (λ es.
-    let both = and_parts (nat_le 1 n) (nat_le n 100000) (holds (nat_le 1 n && nat_le n 100000) es.0) in
-    ((leb-true 1 n both.0, ltb-false 1000000 (w.steps + n) es.1.0), refl))
-
-run_rises : (w : World) (n : ℕ) → IfOk (run_steps w n) (Rises w)
+run_rises : (w : World) (n : ℕ) → IfOk (outcome w (Step n)) (Rises w)
 run_rises w n =
-    bind-keeps (λ u. CanStep n u × (u.steps ≡ w.steps)) (Rises w) (unless (refusals w (Step n)) w) (steps_of n) (can_step w n)
-    (λ u can. ok_weaker (λ v. v.steps ≡ u.steps + n) (Rises w) (steps_of n u)
-    (λ v rose. record { rises = omega (arith, can.0.0, can.1, rose); within = omega (arith, can.0.1, rose) }) (steps_rise n u))
+    unless-goes_on (Rises w) (refusals w (Step n)) w (steps_of n) (λ es.
+    let both = and_parts (nat_le 1 n) (nat_le n 100000) (holds (nat_le 1 n && nat_le n 100000) es.0) in
+    let some = leb-true 1 n both.0 in
+    let few = ltb-false 1000000 (w.steps + n) es.1.0 in
+    ok_weaker (λ v. v.steps ≡ w.steps + n) (Rises w) (steps_of n w)
+    (λ v rose. record { rises = omega (arith, some, rose); within = omega (arith, few, rose) }) (steps_rise n w))
 
 -- ---- the entry of a command
 
@@ -173,11 +155,8 @@ pub record FitsIn (w v : World) (c : Command) (e : Entry) : Type 0 where
   pub short : length (entry_bytes e) + 64 * w.steps ≤ most_bytes c + 64 * v.steps
   pub within : w.steps ≤ 1000000 → v.steps ≤ 1000000
 
-still : (w v : World) (c : Command) (a : Answer) → HasRoom c → v.steps ≡ w.steps → FitsIn w v c (bare c a)
-still w v c a fits same = record { short = omega (arith, bare_short c a fits, same); within = λ le. omega (arith, le, same) }
-
 step_fits : (w : World) (n : ℕ) (r : Result World Refusal) → IfOk r (Rises w)
-    → (let d = done_or_refused w r in FitsIn w d.0 (Step n)
+    → (let d = done_or_refused w replies.Done r in FitsIn w d.0 (Step n)
     (entry_of (record { command = Step n; answer = d.1; sums = kept_sums d.0 (Step n) d.1 })))
 step_fits w n (Ok v) rose = record {
   short = omega (
@@ -190,39 +169,95 @@ step_fits w n (Ok v) rose = record {
   );
   within = λ le. rose.within;
 }
-step_fits w n (Err refusal) rose = still w w (Step n) (refusal_answer refusal) (number_room (Step n) n refl) refl
-
--- a command that is no step
-other_fits : (w : World) (c : Command) (r : Result World Refusal) (a : Answer) → HasRoom c → IfOk r (λ v. v.steps ≡ w.steps)
-    → FitsIn w (done_or_refused w r).0 c (bare c a)
-other_fits w c (Ok v) a fits same = still w v c a fits same
-other_fits w c (Err refusal) a fits same = still w w c a fits refl
-
--- a command without operands, with an answer of one byte
-small : (w : World) (c : Command) (a : Answer) → (verb_and_operands c).1 ≡ Nothing → length (answer_bytes a) ≡ 1 → FitsIn w w c (bare c a)
-small w c a is answered = record {
-  short = omega (arith, entry_length (bare c a), ap bytes_with is, bare_length c is, answered);
+step_fits w n (Err refusal) rose = record {
+  short = omega (arith, entry_length (bare (Step n) (refusal_answer refusal)), step_length n, answer_short (refusal_answer refusal));
   within = λ le. le;
 }
 
-kept_steps : (w v : World) (tests : List (Bool × Refusal)) → v.steps ≡ w.steps → IfOk (unless tests v) (λ u. u.steps ≡ w.steps)
-kept_steps w v tests same = unless-keeps (λ u. u.steps ≡ w.steps) tests v (λ es. same)
+steps_fit : (w : World) (n : ℕ) → FitsIn w (after w (Step n)) (Step n) (entry_of (entry w (Step n)))
+unfolding meaning
+steps_fit w n = step_fits w n (outcome w (Step n)) (run_rises w n)
+
+-- ---- a command that takes no steps: nothing rises, no sums are kept, and the answer is one byte
+
+abbrev IsStill : Deed → Type 0
+IsStill d = (n : ℕ) → d ≢ Steps n
+
+abbrev HasSteps : World → World → Type 0
+HasSteps w v = v.steps ≡ w.steps
+
+deed_stays : (w : World) (d : Deed) → IsStill d → Leads (HasSteps w) w d
+deed_stays w (Steps n) still = absurd (still n refl)
+deed_stays w (Edits (OnParticle i change lost)) still = refl
+deed_stays w (Edits edit) still = refl
+deed_stays w (Answers told) still = tt
+
+no_sums : (w : World) (c : Command) (r : Reply) → IsStill (deed c) → kept_sums w c r ≡ None
+no_sums w (Step n) r still = absurd (still n refl)
+no_sums w c r still = refl
+
+-- a reply with no step of a refusal
+abbrev IsBrief : Reply → Type 0
+IsBrief (replies.Refused refusal) = IsTrue (is_plain refusal)
+IsBrief r = Unit {0}
+
+refusal_byte : (r : Refusal) → IsTrue (is_plain r) → length (answer_bytes (refusal_answer r)) ≡ 1
+unfolding answer_bytes
+refusal_byte (LeavesRange step phase element) brief = absurd (false≢true brief)
+refusal_byte (TooManyContacts step) brief = absurd (false≢true brief)
+refusal_byte r brief = refl
+
+answer_byte : (r : Reply) → IsBrief r → length (answer_bytes (answer_of r)) ≡ 1
+answer_byte (replies.Refused refusal) brief = refusal_byte refusal brief
+answer_byte r brief = done_length
+
+deed_refuses : (w : World) (c : Command) (d : Deed) → IsStill d
+    → IfErr (unless_refused w (refusals w c) d) (λ r. IsTrue (is_plain r))
+deed_refuses w c d still = by d still (all_plain (λ r. IsTrue (is_plain r)) (λ r is. is) (refusals w c) (tests_plain w c))
+  where
+    by : (d : Deed) → IsStill d → AllByRecursion (λ (t : Bool × Refusal). IsTrue (is_plain t.1)) (refusals w c)
+        → IfErr (unless_refused w (refusals w c) d) (λ r. IsTrue (is_plain r))
+    by (Steps n) still all = absurd (still n refl)
+    by (Edits edit) still all = tests_end (λ r. IsTrue (is_plain r)) (refusals w c) (edited w edit) all
+    by (Answers told) still all = tests_end (λ r. IsTrue (is_plain r)) (refusals w c) w all
+
+answer_brief : (c : Command) → IsBrief (answer (deed c))
+answer_brief Bad = refl
+answer_brief c = tt
+
+reply_brief : (w : World) (c : Command) → IsStill (deed c) → IsBrief (reply w c)
+unfolding meaning
+reply_brief w c still = by (outcome w c) (deed_refuses w c (deed c) still)
+  where
+    by : (r : Result World Refusal) → IfErr r (λ r. IsTrue (is_plain r)) → IsBrief (done_or_refused w (answer (deed c)) r).1
+    by (Ok v) brief = answer_brief c
+    by (Err refusal) brief = brief
+
+still_fits : (w v : World) (c : Command) (r : Reply) → v.steps ≡ w.steps → IsBrief r → FitsIn w v c (bare c (answer_of r))
+still_fits w v c r same brief = record {
+  short = omega (arith, entry_length (bare c (answer_of r)), command_room c, answer_byte r brief, same);
+  within = λ le. omega (arith, le, same);
+}
+
+bare_fits : (w : World) (c : Command) → IsStill (deed c) → FitsIn w (after w c) c (entry_of (entry w c))
+bare_fits w c still = rw (no_sums (after w c) c (reply w c) still) (still_fits w (after w c) c (reply w c)
+    (command-leads (HasSteps w) w c refl (λ es. deed_stays w (deed c) still))
+    (reply_brief w c still))
+
+-- ---- any command
+
+-- only the command of steps takes steps
+only_steps : (c : Command) (n : ℕ) → deed c ≡ Steps n → c ≡ Step n
+only_steps (Step m) n is = cc
+only_steps c n is = absurd (cc)
 
 entry_fits : (w : World) (c : Command) → FitsIn w (after w c) c (entry_of (entry w c))
-unfolding meaning
-entry_fits w (Step n) = step_fits w n (run_steps w n) (run_rises w n)
-entry_fits w (Pin i) = other_fits w (Pin i) (pin w i) _ (number_room (Pin i) i refl)
-    (kept_steps w (pinned w i (particle_at w.particles i)) (refusals w (Pin i)) refl)
-entry_fits w (Unpin i) = other_fits w (Unpin i) (unpin w i) _ (number_room (Unpin i) i refl)
-    (kept_steps w (unpinned w i (particle_at w.particles i)) (refusals w (Unpin i)) refl)
-entry_fits w (Move i to) = other_fits w (Move i to) (place_held w i to) _ (both_room (Move i to) i to refl)
-    (kept_steps w (put_at w i (particle_at w.particles i) to) (refusals w (Move i to)) refl)
-entry_fits w (Cut l) = other_fits w (Cut l) (cut w l) _ (number_room (Cut l) l refl) (kept_steps w (without_link w l) (refusals w (Cut l)) refl)
-entry_fits w (Gravity g) = other_fits w (Gravity g) (set_gravity w g) _ (vector_room (Gravity g) g refl)
-    (kept_steps w (record w { gravity = g }) (refusals w (Gravity g)) refl)
-entry_fits w Frame = small w Frame (plain 0) refl done_length
-entry_fits w Ledger = small w Ledger (plain 0) refl done_length
-entry_fits w Bad = small w Bad (plain 1) refl bad_answer
+entry_fits w c = by (deed c) refl
+  where
+    by : (d : Deed) → deed c ≡ d → FitsIn w (after w c) c (entry_of (entry w c))
+    by (Steps n) is = subst (λ d. FitsIn w (after w d) d (entry_of (entry w d))) (sym (only_steps c n is)) (steps_fit w n)
+    by (Edits edit) is = bare_fits w c (λ n steps. absurd (cc))
+    by (Answers told) is = bare_fits w c (λ n steps. absurd (cc))
 
 -- ---- all entries
 

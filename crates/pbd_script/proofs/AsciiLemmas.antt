@@ -12,11 +12,11 @@ use Rattle.std.proofs.lemmas.List.Folds.{list_all_at, list_all-append}
 use Rattle.pbd_num.specs.declared.Vec3.{Vec3}
 use Rattle.pbd_world.specs.declared.command.Command.{Command}
 use Rattle.pbd_world.specs.declared.command.Command.TheVariants.{Bad}
-use Rattle.pbd_world.specs.declared.verb.Verb.{Verb}
-use Rattle.pbd_world.specs.declared.verb.OperandKind.{OperandKind}
-use Rattle.pbd_world.specs.declared.verb.OperandKind.TheVariants as kinds
-use Rattle.pbd_world.specs.declared.verb.Operands.{Operands}
-use Rattle.pbd_world.specs.declared.verb.Operands.TheVariants.{Number, Vector, NumberAndVector}
+use Rattle.pbd_world.specs.declared.command.Verb.{Verb}
+use Rattle.pbd_world.specs.declared.command.OperandKind.{OperandKind}
+use Rattle.pbd_world.specs.declared.command.OperandKind.TheVariants as kinds
+use Rattle.pbd_world.specs.declared.command.Operands.{Operands}
+use Rattle.pbd_world.specs.declared.command.Operands.TheVariants.{Number, Vector, NumberAndVector}
 use Rattle.pbd_world.specs.Verbs.{row, verb_named, command_with}
 use Rattle.pbd_world.proofs.VerbLaws.{rows_pass, word_is}
 use Rattle.pbd_script.specs.Lines.{words, is_blank, is_digit, is_count, count, number, value, only_count}

@@ -4,7 +4,7 @@ use Rattle.std.specs.Option.{option_map, option_and_then}
 use Rattle.pbd_num.specs.declared.Vec3.{Vec3}
 use Rattle.pbd_world.specs.declared.command.Command.{Command}
 use Rattle.pbd_world.specs.declared.command.Command.TheVariants.{Step, Frame, Pin, Unpin, Move, Cut, Gravity, Ledger}
-use Rattle.pbd_world.specs.declared.verb.Operands.TheVariants.{Number, Vector, NumberAndVector}
+use Rattle.pbd_world.specs.declared.command.Operands.TheVariants.{Number, Vector, NumberAndVector}
 use Rattle.pbd_world.specs.Verbs.{row, verb_named, the_number, the_vector, number_and_vector}
 use Rattle.pbd_script.specs.Lines.{count, only_count}
 use Rattle.pbd_script.specs.Commands.{only_vector, form}

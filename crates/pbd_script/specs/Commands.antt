@@ -6,10 +6,10 @@ use Rattle.std.specs.Str.Lines.{strip_carriage_return}
 use Rattle.pbd_num.specs.declared.Vec3.{Vec3}
 use Rattle.pbd_world.specs.declared.command.Command.{Command}
 use Rattle.pbd_world.specs.declared.command.Command.TheVariants.{Bad}
-use Rattle.pbd_world.specs.declared.verb.OperandKind.{OperandKind}
-use Rattle.pbd_world.specs.declared.verb.OperandKind.TheVariants as kinds
-use Rattle.pbd_world.specs.declared.verb.Operands.{Operands}
-use Rattle.pbd_world.specs.declared.verb.Operands.TheVariants.{Nothing, Number, Vector, NumberAndVector}
+use Rattle.pbd_world.specs.declared.command.OperandKind.{OperandKind}
+use Rattle.pbd_world.specs.declared.command.OperandKind.TheVariants as kinds
+use Rattle.pbd_world.specs.declared.command.Operands.{Operands}
+use Rattle.pbd_world.specs.declared.command.Operands.TheVariants.{Nothing, Number, Vector, NumberAndVector}
 use Rattle.pbd_world.specs.Verbs.{row, verb_named, command_with}
 use Rattle.pbd_script.specs.Lines.{pieces, words, count, number, only_count}
 

@@ -6,4 +6,3 @@ pub mod Recorded
 mod Comparing
 mod Replays
 mod Summing
-mod Applying

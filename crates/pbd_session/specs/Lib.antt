@@ -3,4 +3,3 @@ pub mod Recording
 pub mod Replaying
 pub mod Naming
 pub mod Lending
-pub mod Applying

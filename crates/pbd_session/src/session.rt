@@ -1,30 +1,19 @@
 //! A solver that takes commands.
-ghost use Rattle.std.specs.Prelude.{◌≡◌, ◌+◌, ◌≤◌, ◌<◌, ℕ, IfOk, IsTrue, MatchResult};
+ghost use Rattle.std.specs.Prelude.{◌≡◌, ◌+◌, ◌≤◌, ◌<◌, ℕ, IfOk, IsTrue};
 ghost use Rattle.std.specs.Borrow.{sem};
 ghost use Rattle.pbd_world.specs.Meaning.{after, reply};
 ghost use Rattle.pbd_world.specs.Valid.{is_limit};
 ghost use Rattle.pbd_world.specs.Work.{command_work};
 ghost use Rattle.pbd_world.specs.World.{opened, IsSound, AreOfOneScene};
-ghost use Rattle.pbd_session.specs.Applying.{Applied};
 ghost use Rattle.pbd_session.specs.Lending.{LendsSolver};
 
 use pbd_pair::Projector;
 use pbd_step::Solver;
 use pbd_store::Steps;
-use pbd_world::{Command, Refusal, Reply, Scene};
+use pbd_world::{Command, Reply, Scene};
 use std::alloc::{AllocError, Global};
 use std::marker::Model;
 use std::sync::ledger::Ledger;
-
-/// The reply of a call that may be refused.
-fn replied(outcome: Result<(), Refusal>) -> Reply
-    ensures { MatchResult outcome (λ _. result ≡ Reply.Done) (λ refusal. result ≡ Reply.Refused refusal) }
-{
-    match outcome {
-        Ok(()) => Reply::Done,
-        Err(refusal) => Reply::Refused(refusal),
-    }
-}
 
 /// A solver that takes commands, seen as its world. Only opening takes memory.
 #[derive(Drop)]
@@ -62,40 +51,6 @@ impl<const L: usize, P: Projector<L> + Drop> Session<L, P> {
         self.solver.limit()
     }
 
-    /// Answers without a change.
-    fn keep(&self, reply: Reply) -> Reply
-        requires lanes_high { L ≤ 16 }
-        ensures reply { result ≡ reply }
-        ensures sound { IsSound self.now }
-    {
-        let _limit = self.limit();
-        reply
-    }
-
-    /// What the solver does of a command, and the reply.
-    #[tactic(auto, unfolding(pbd_world::specs::Meaning::meaning, pbd_world::specs::Work::command_work))]
-    fn done<G: Ledger>(&mut self, command: &Command, steps: &mut Steps<G>) -> Reply
-        requires lanes_low { 0 < L }
-        requires lanes_high { L ≤ 16 }
-        ensures does { Applied self.old self.new command.now result }
-        ensures cost { (lanes : ℕ) → 0 < lanes → ((projector : P) → lanes ≤ P.width projector)
-            → steps.new ≤ steps.old + command_work L lanes self.old command.now }
-    {
-        match command {
-            Command::Step(n) => replied(self.solver.steps(*n, steps)),
-            Command::Pin(i) => replied(self.solver.pin(*i, steps)),
-            Command::Unpin(i) => replied(self.solver.unpin(*i, steps)),
-            Command::Move { particle, to } => {
-                replied(self.solver.place_held(*particle, *to, steps))
-            }
-            Command::Cut(l) => replied(self.solver.cut(*l)),
-            Command::Gravity(g) => replied(self.solver.set_gravity(*g)),
-            Command::Frame => self.keep(Reply::Frame),
-            Command::Ledger => self.keep(Reply::Ledger),
-            Command::Bad => self.keep(Reply::Refused(Refusal::BadCommand)),
-        }
-    }
-
     /// Does a command. A refused command changes nothing.
     pub fn apply<G: Ledger>(&mut self, command: &Command, steps: &mut Steps<G>) -> Reply
         requires lanes_low { 0 < L }
@@ -109,7 +64,7 @@ impl<const L: usize, P: Projector<L> + Drop> Session<L, P> {
         ensures cost { (lanes : ℕ) → 0 < lanes → ((projector : P) → lanes ≤ P.width projector)
             → steps.new ≤ steps.old + command_work L lanes self.old command.now }
     {
-        self.done(command, steps)
+        self.solver.obey(command, steps)
     }
 
     /// The solver, whose world is the session's.

@@ -10,10 +10,12 @@ use Rattle.pbd_world.specs.declared.command.Command.TheVariants as commands
 use Rattle.pbd_world.specs.declared.command.Refusal.{Refusal}
 use Rattle.pbd_num.specs.declared.Vec3.{Vec3}
 use Rattle.pbd_world.specs.declared.command.Reply.{Reply}
-use Rattle.pbd_world.specs.Meaning.{steps_of, meaning, after, done_or_refused, run_steps, pin, unpin, place_held, cut, set_gravity}
+use Rattle.pbd_world.specs.declared.command.Reply.TheVariants as replies
+use Rattle.pbd_world.specs.Meaning.{steps_of, outcome, answer, deed}
 use Rattle.pbd_world.specs.Meaning.{refusals as world_refusals}
 use Rattle.pbd_world.specs.World.{World, IsSound, AreOfOneScene, live_count, opened, parts_of}
 use Rattle.pbd_world.proofs.CommandSound.{command-sound, command-scene}
+use Rattle.pbd_world.proofs.Deeds.{done-world, done-reply, refused-world, refused-reply}
 use Rattle.pbd_world.proofs.KeepingOn.{length-mapped}
 use Rattle.pbd_colour.specs.Pairs.{Coloured, InRange}
 use Rattle.pbd_step.specs.declared.state.Setting.{Setting}
@@ -43,26 +45,21 @@ use Rattle.pbd_step.proofs.Settling.{fixed_numbers, same_links}
 use Rattle.pbd_world.proofs.OpenedLemmas.{opened-is_sound}
 use Rattle.pbd_step.specs.Opening.{AreCopied, IsFirst, IsUnused}
 use Rattle.pbd_step.specs.Solving.{AreAlike, IsKept, IsTakenOver, Solved}
-use Rattle.pbd_step.specs.Obeying.{Obeys, Commanded}
+use Rattle.pbd_step.specs.Obeying.{Obeys, Commanded, IsAnswered}
 use Rattle.pbd_world.proofs.OrderCounts.{flags_kept}
 
 -- ---- what a command leads to
 
--- what a command means is what a function of worlds comes to, or its refusal
-pub record Means (c : Command) (meant : World → Result World Refusal) : Type 0 where
-  pub says : (w : World) → meaning w c ≡ done_or_refused w (meant w)
-
 -- a command that a part obeys leads from a sound world to a sound world of the same scene
-pub commanded : {S : Type 0} {world : S → World} {r : Result (Unit {0}) Refusal} {old new : S} {c : Command}
-    {meant : World → Result World Refusal} → Means c meant → Obeys world r (meant (world old)) old new → IsSound (world old)
-    → Commanded r (meant (world old)) (world old) (world new)
-commanded {S} {world} {r} {old} {new} {c} {meant} is h sound = by r h.outcome h.kept
+pub commanded : {S : Type 0} {world : S → World} {r : Result (Unit {0}) Refusal} {old new : S} (c : Command)
+    → Obeys world r (outcome (world old) c) old new → IsSound (world old) → Commanded r (outcome (world old) c) (world old) (world new)
+commanded {S} {world} {r} {old} {new} c h sound = by r h.outcome h.kept
   where
-    by : (r : Result (Unit {0}) Refusal) → MatchResult r (λ x. meant (world old) ≡ Ok (world new)) (λ refusal. meant (world old) ≡ Err refusal)
-        → OnErr r (new ≡ old) → Commanded r (meant (world old)) (world old) (world new)
+    by : (r : Result (Unit {0}) Refusal)
+        → MatchResult r (λ x. outcome (world old) c ≡ Ok (world new)) (λ refusal. outcome (world old) c ≡ Err refusal)
+        → OnErr r (new ≡ old) → Commanded r (outcome (world old) c) (world old) (world new)
     by (Ok x) e kept =
-        let there : after (world old) c ≡ world new = ap (λ (p : World × Reply). p.0) (is.says (world old))
-        ∙ ap (λ (s : Result World Refusal). (done_or_refused (world old) s).0) e in
+        let there = done-world (world old) (world new) c e in
         record {
           obeys = record { outcome = e; kept = kept };
           sound = subst IsSound there (command-sound (world old) c sound);
@@ -76,62 +73,55 @@ commanded {S} {world} {r} {old} {new} {c} {meant} is h sound = by r h.outcome h.
         }
 
 -- the same of the world as callers see it
-pub seen_commanded : {P : Type 0} {inside seen : Solved P} {r : Result (Unit {0}) Refusal} {new : World}
-    (meant : World → Result World Refusal) → inside ≡ seen → Commanded r (meant inside.world) inside.world new
-    → Commanded r (meant seen.world) seen.world new
-seen_commanded {P} {inside} {seen} {r} {new} meant is h = subst (λ (s : Solved P). Commanded r (meant s.world) s.world new) is h
+pub seen_commanded : {P : Type 0} {inside seen : Solved P} {r : Result (Unit {0}) Refusal} {new : World} (c : Command)
+    → inside ≡ seen → Commanded r (outcome inside.world c) inside.world new → Commanded r (outcome seen.world c) seen.world new
+seen_commanded {P} {inside} {seen} {r} {new} c is h = subst (λ (s : Solved P). Commanded r (outcome s.world c) s.world new) is h
 
 -- a command that a part obeys, likewise
-pub seen_obeyed : {S P : Type 0} {world : S → World} {old new : S} {inside seen : Solved P} {r : Result (Unit {0}) Refusal} {c : Command}
-    {meant : World → Result World Refusal} → Means c meant → Obeys world r (meant (world old)) old new → IsSound (world old)
-    → inside ≡ seen → inside.world ≡ world old → Commanded r (meant seen.world) seen.world (world new)
-seen_obeyed {S} {P} {world} {old} {new} {inside} {seen} {r} {c} {meant} told h sound is same =
-    seen_commanded meant is (subst (λ (w : World). Commanded r (meant w) w (world new)) (sym same) (commanded told h sound))
+pub seen_obeyed : {S P : Type 0} {world : S → World} {old new : S} {inside seen : Solved P} {r : Result (Unit {0}) Refusal} (c : Command)
+    → Obeys world r (outcome (world old) c) old new → IsSound (world old)
+    → inside ≡ seen → inside.world ≡ world old → Commanded r (outcome seen.world c) seen.world (world new)
+seen_obeyed {S} {P} {world} {old} {new} {inside} {seen} {r} c h sound is same =
+    seen_commanded c is (subst (λ (w : World). Commanded r (outcome w c) w (world new)) (sym same) (commanded c h sound))
 
 -- a refusal leaves it as it was
-pub refused : {P : Type 0} {inside seen : Solved P} {refusal : Refusal} (means : World → Result World Refusal) → inside ≡ seen
-    → IsSound inside.world → means inside.world ≡ Err refusal → Commanded (Err refusal) (means seen.world) seen.world seen.world
-refused {P} {inside} {seen} {refusal} means is sound e =
-    subst (λ (s : Solved P). Commanded (Err refusal) (means s.world) s.world s.world) is
+pub refused : {P : Type 0} {inside seen : Solved P} {refusal : Refusal} (c : Command) → inside ≡ seen
+    → IsSound inside.world → outcome inside.world c ≡ Err refusal → Commanded (Err refusal) (outcome seen.world c) seen.world seen.world
+refused {P} {inside} {seen} {refusal} c is sound e =
+    subst (λ (s : Solved P). Commanded (Err refusal) (outcome s.world c) s.world s.world) is
     (record { obeys = record { outcome = e; kept = refl }; sound = sound; one_scene = refl })
 
--- what each command that may be refused means
-pub record Meanings (w : World) : Type 0 where
-  pub steps : (n : ℕ) → meaning w (commands.Step n) ≡ done_or_refused w (run_steps w n)
-  pub pin : (i : ℕ) → meaning w (commands.Pin i) ≡ done_or_refused w (pin w i)
-  pub unpin : (i : ℕ) → meaning w (commands.Unpin i) ≡ done_or_refused w (unpin w i)
-  pub place : (i : ℕ) (to : Vec3) → meaning w (commands.Move i to) ≡ done_or_refused w (place_held w i to)
-  pub cut : (n : ℕ) → meaning w (commands.Cut n) ≡ done_or_refused w (cut w n)
-  pub gravity : (g : Vec3) → meaning w (commands.Gravity g) ≡ done_or_refused w (set_gravity w g)
+-- a command that is answered alone
+pub answered : {P : Type 0} {inside seen : Solved P} (c : Command) → inside ≡ seen → IsSound inside.world
+    → outcome inside.world c ≡ Ok inside.world → Commanded (Ok tt) (outcome seen.world c) seen.world seen.world
+answered {P} {inside} {seen} c is sound e =
+    subst (λ (s : Solved P). Commanded (Ok tt) (outcome s.world c) s.world s.world) is
+    (record { obeys = record { outcome = e; kept = tt }; sound = sound; one_scene = refl })
 
-pub means : (w : World) → Meanings w
-unfolding meaning
-means w = record {
-  steps = λ n. refl;
-  pin = λ i. refl;
-  unpin = λ i. refl;
-  place = λ i to. refl;
-  cut = λ n. refl;
-  gravity = λ g. refl;
-}
+-- the same command by another name
+pub commanded_as : {r : Result (Unit {0}) Refusal} {w v : World} (c d : Command) → c ≡ d → Commanded r (outcome w d) w v
+    → Commanded r (outcome w c) w v
+commanded_as {r} {w} {v} c d is h = subst (λ (x : Command). Commanded r (outcome w x) w v) (sym is) h
 
-pub mean_steps : (n : ℕ) → Means (commands.Step n) (λ w. run_steps w n)
-mean_steps n = record { says = λ w. (means w).steps n }
-
-pub mean_pin : (i : ℕ) → Means (commands.Pin i) (λ w. pin w i)
-mean_pin i = record { says = λ w. (means w).pin i }
-
-pub mean_unpin : (i : ℕ) → Means (commands.Unpin i) (λ w. unpin w i)
-mean_unpin i = record { says = λ w. (means w).unpin i }
-
-pub mean_place : (i : ℕ) (to : Vec3) → Means (commands.Move i to) (λ w. place_held w i to)
-mean_place i to = record { says = λ w. (means w).place i to }
-
-pub mean_cut : (n : ℕ) → Means (commands.Cut n) (λ w. cut w n)
-mean_cut n = record { says = λ w. (means w).cut n }
-
-pub mean_gravity : (g : Vec3) → Means (commands.Gravity g) (λ w. set_gravity w g)
-mean_gravity g = record { says = λ w. (means w).gravity g }
+-- a command that was done is answered as it is meant
+pub answers : {r : Result (Unit {0}) Refusal} {w v : World} {x : Reply} (c : Command) → Commanded r (outcome w c) w v
+    → MatchResult r (λ y. x ≡ answer (deed c)) (λ refusal. x ≡ replies.Refused refusal) → IsAnswered w v c x
+answers {r} {w} {v} {x} c h told = by r h.obeys.outcome h.obeys.kept told
+  where
+    by : (r : Result (Unit {0}) Refusal) → MatchResult r (λ y. outcome w c ≡ Ok v) (λ refusal. outcome w c ≡ Err refusal)
+        → OnErr r (v ≡ w) → MatchResult r (λ y. x ≡ answer (deed c)) (λ refusal. x ≡ replies.Refused refusal) → IsAnswered w v c x
+    by (Ok y) e kept is = record {
+      reply = is ∙ sym (done-reply w v c e);
+      world = sym (done-world w v c e);
+      sound = h.sound;
+      one_scene = h.one_scene;
+    }
+    by (Err refusal) e kept is = record {
+      reply = is ∙ sym (refused-reply w c refusal e);
+      world = kept ∙ sym (refused-world w c refusal e);
+      sound = h.sound;
+      one_scene = h.one_scene;
+    }
 
 -- ---- worlds of one scene
 
@@ -278,13 +268,13 @@ kept_commanded {l} {setting} {setting'} {old} {new} {kept} {colours} {colours'} 
 
 -- the same of a command that a state obeys, where it has left the links as they were
 pub kept_linked : {l : ℕ} {setting : Setting} {old new kept : State l} {colours : Coloured} {scratch : Scratch}
-    {r : Result (Unit {0}) Refusal} {c : Command} {meant : World → Result World Refusal} → Means c meant
-    → IsKept setting old kept colours scratch → Obeys (λ (s : State l). world_of setting s) r (meant (world_of setting old)) old new
+    {r : Result (Unit {0}) Refusal} (c : Command)
+    → IsKept setting old kept colours scratch → Obeys (λ (s : State l). world_of setting s) r (outcome (world_of setting old) c) old new
     → AreWeights new → new.links.items ≡ old.links.items
     → (said : Bool) → (IsTrue said → AreLinksLaid new scratch.laid_links)
     → IsKept setting new kept colours (record scratch { are_links_laid = said })
-kept_linked {l} {setting} {old} {new} {kept} {colours} told h obeys weights same said laid =
-    kept_commanded h (commanded told obeys h.sound) weights
+kept_linked {l} {setting} {old} {new} {kept} {colours} c h obeys weights same said laid =
+    kept_commanded h (commanded c obeys h.sound) weights
     (subst (λ (ls : List Link). HasLinks (length old.store.particles) ls colours) (sym same) h.links) said laid
 
 -- what is known of the links of a state that becomes another one of the same scene
@@ -357,18 +347,18 @@ tests_are w n some few late e f g = λ i. unless ((not (e i && f i), refusals.Ba
 
 -- what the steps come to where the tests do
 run_is : (w : World) (n : ℕ) (r : Result World Refusal) → unless (world_refusals w (commands.Step n)) w ≡ r
-    → run_steps w n ≡ (r >>= steps_of n)
+    → outcome w (commands.Step n) ≡ (r >>= steps_of n)
 run_is w n r e = ap (λ (s : Result World Refusal). s >>= steps_of n) e
 
 -- a count in its range that stays below the step limit
 pub goes_on : (w : World) (n : ℕ) → 1 ≤ n → n ≤ 100000 → w.steps + n ≤ 1000000 → unless (world_refusals w (commands.Step n)) w ≡ Ok w
 goes_on w n low high few = tests_are w n true true false (le-leb 1 n low) (le-leb n 100000 high) (le-ltb 1000000 (w.steps + n) few)
 
-pub run_goes : (w : World) (n : ℕ) → 1 ≤ n → n ≤ 100000 → w.steps + n ≤ 1000000 → run_steps w n ≡ steps_of n w
+pub run_goes : (w : World) (n : ℕ) → 1 ≤ n → n ≤ 100000 → w.steps + n ≤ 1000000 → outcome w (commands.Step n) ≡ steps_of n w
 run_goes w n low high few = run_is w n (Ok w) (goes_on w n low high few)
 
 -- counts that are refused
-pub run_uncounted : (w : World) (n : ℕ) → (n < 1) ⊎ ((1 ≤ n) × (100000 < n)) → run_steps w n ≡ Err refusals.BadCount
+pub run_uncounted : (w : World) (n : ℕ) → (n < 1) ⊎ ((1 ≤ n) × (100000 < n)) → outcome w (commands.Step n) ≡ Err refusals.BadCount
 run_uncounted w n out = elim out [
   | inl none ↦ run_is w n (Err refusals.BadCount) (tests_are w n false (nat_le n 100000) (nat_lt 1000000 (w.steps + n))
       (lt-leb 1 n none) refl refl)
@@ -376,7 +366,7 @@ run_uncounted w n out = elim out [
       (lt-leb n 100000 both.1) refl)
 ]
 
-pub run_late : (w : World) (n : ℕ) → 1 ≤ n → n ≤ 100000 → 1000000 < w.steps + n → run_steps w n ≡ Err refusals.StepLimit
+pub run_late : (w : World) (n : ℕ) → 1 ≤ n → n ≤ 100000 → 1000000 < w.steps + n → outcome w (commands.Step n) ≡ Err refusals.StepLimit
 run_late w n low high late = run_is w n (Err refusals.StepLimit)
     (tests_are w n true true true (le-leb 1 n low) (le-leb n 100000 high) (lt-ltb 1000000 (w.steps + n) late))
 

@@ -1,21 +1,23 @@
-// The commands that are no steps. After a refusal the state is as it was.
-ghost use Rattle.std.specs.Prelude.{◌≡◌, ℕ, ◌+◌, ◌<◌, ◌≤◌, ◌^◌, length, IfSome, IfNone, false};
-ghost use Rattle.pbd_world.specs.Meaning.{pin as pinned_world, unpin as unpinned_world, place_held as placed_world};
-ghost use Rattle.pbd_world.specs.Meaning.{cut as cut_world, set_gravity as pulled_world};
+// What a solver does of commands. After a refusal all is as it was.
+ghost use Rattle.std.specs.Prelude.{◌≡◌, ℕ, ◌+◌, ◌<◌, ◌≤◌, ◌^◌, length, IfSome, IfNone, MatchResult, false};
+ghost use Rattle.pbd_world.specs.Meaning.{answer, deed, outcome};
+ghost use Rattle.pbd_world.specs.Work.{command_work};
 ghost use Rattle.pbd_num.specs.Vectors.{Within, opposite};
 ghost use Rattle.pbd_world.specs.Ledger.{ledger_of, HaveRoom};
 ghost use Rattle.pbd_world.specs.Particles.{particle_at, velocity};
 ghost use Rattle.pbd_world.specs.World.{is_tracked};
 ghost use Rattle.pbd_step.specs.declared.state.Setting.{Setting};
 ghost use Rattle.pbd_step.specs.States.{world_of, AreWeights, HasLinks};
-ghost use Rattle.pbd_step.specs.Obeying.{Obeys};
+ghost use Rattle.pbd_step.specs.Obeying.{Obeys, Commanded, IsAnswered};
 
+use crate::solver::Solver;
 use crate::state::{Setting, State};
 use pbd_colour::Colouring;
 use pbd_num::{Vec3, within};
+use pbd_pair::Projector;
 use pbd_store::{Steps, Store};
 use pbd_track::is_tracked;
-use pbd_world::{Class, Link, Particle, Refusal, totals_with_room_take_moves};
+use pbd_world::{Class, Command, Link, Particle, Refusal, Reply, totals_with_room_take_moves};
 use std::sync::ledger::Ledger;
 
 /// Particle i and its number, if there is one.
@@ -78,13 +80,13 @@ fn dead(link: Link) -> Link
 
 impl<const L: usize> State<L> {
     /// Holds particle i where it is, and books its velocity, turned round, to pin.
-    pub(crate) fn pin<G: Ledger>(&mut self, i: u64, steps: &mut Steps<G>) -> Result<(), Refusal>
+    fn pin<G: Ledger>(&mut self, i: u64, steps: &mut Steps<G>) -> Result<(), Refusal>
         requires lanes { L ≤ 16 }
         requires at { (k : ℕ) → k < length self.old.store.particles → Within (2 ^ 29) (particle_at self.old.store.particles k).at }
         requires before { (k : ℕ) → k < length self.old.store.particles → Within (2 ^ 29) (particle_at self.old.store.particles k).before }
         requires room { HaveRoom (2 ^ 99) (ledger_of self.old.totals) }
         requires weights { AreWeights self.old }
-        ensures obeys { (setting : Setting) → Obeys (λ s. world_of setting s) result (pinned_world (world_of setting self.old) i)
+        ensures obeys { (setting : Setting) → Obeys (λ s. world_of setting s) result (outcome (world_of setting self.old) (Command.Pin i))
             self.old self.new }
         ensures same { self.new ≡ record self.old { store = self.new.store; weights = self.new.weights; totals = self.new.totals } }
         ensures weights { AreWeights self.new }
@@ -105,7 +107,7 @@ impl<const L: usize> State<L> {
     }
 
     /// Frees particle i, at rest.
-    pub(crate) fn unpin<G: Ledger>(
+    fn unpin<G: Ledger>(
         &mut self,
         setting: &Setting,
         i: u64,
@@ -113,7 +115,7 @@ impl<const L: usize> State<L> {
     ) -> Result<(), Refusal>
         requires lanes { L ≤ 16 }
         requires weights { AreWeights self.old }
-        ensures obeys { Obeys (λ s. world_of setting.now s) result (unpinned_world (world_of setting.now self.old) i) self.old self.new }
+        ensures obeys { Obeys (λ s. world_of setting.now s) result (outcome (world_of setting.now self.old) (Command.Unpin i)) self.old self.new }
         ensures same { self.new ≡ record self.old { store = self.new.store; weights = self.new.weights } }
         ensures weights { AreWeights self.new }
         ensures copies { self.new.store.copies ≡ self.old.store.copies }
@@ -134,7 +136,7 @@ impl<const L: usize> State<L> {
     }
 
     /// Puts the held particle i at a place, at rest.
-    pub(crate) fn place_held<G: Ledger>(
+    fn place_held<G: Ledger>(
         &mut self,
         setting: &Setting,
         i: u64,
@@ -143,7 +145,7 @@ impl<const L: usize> State<L> {
     ) -> Result<(), Refusal>
         requires lanes { L ≤ 16 }
         requires weights { AreWeights self.old }
-        ensures obeys { Obeys (λ s. world_of setting.now s) result (placed_world (world_of setting.now self.old) i to) self.old self.new }
+        ensures obeys { Obeys (λ s. world_of setting.now s) result (outcome (world_of setting.now self.old) (Command.Move i to)) self.old self.new }
         ensures same { self.new ≡ record self.old { store = self.new.store } }
         ensures weights { AreWeights self.new }
         ensures copies { self.new.store.copies ≡ self.old.store.copies }
@@ -166,11 +168,11 @@ impl<const L: usize> State<L> {
     }
 
     /// Lets link l go, and mends the colours of the others.
-    pub(crate) fn cut(&mut self, colours: &mut Colouring, l: u64) -> Result<(), Refusal>
+    fn cut(&mut self, colours: &mut Colouring, l: u64) -> Result<(), Refusal>
         requires lanes { L ≤ 16 }
         requires few { length self.old.links.items ≤ 524288 }
         requires links { HasLinks (length self.old.store.particles) self.old.links.items colours.old }
-        ensures obeys { (setting : Setting) → Obeys (λ s. world_of setting s) result (cut_world (world_of setting self.old) l)
+        ensures obeys { (setting : Setting) → Obeys (λ s. world_of setting s) result (outcome (world_of setting self.old) (Command.Cut l))
             self.old self.new }
         ensures same { self.new ≡ record self.old { links = self.new.links } }
         ensures links_length { length self.new.links.items ≡ length self.old.links.items }
@@ -192,13 +194,13 @@ impl<const L: usize> State<L> {
 }
 
 /// Sets gravity.
-pub(crate) fn set_gravity<const L: usize>(
+fn set_gravity<const L: usize>(
     setting: &mut Setting,
     state: &State<L>,
     g: Vec3,
 ) -> Result<(), Refusal>
     requires lanes { L ≤ 16 }
-    ensures obeys { Obeys (λ s. world_of s state.now) result (pulled_world (world_of setting.old state.now) g) setting.old setting.new }
+    ensures obeys { Obeys (λ s. world_of s state.now) result (outcome (world_of setting.old state.now) (Command.Gravity g)) setting.old setting.new }
     ensures same { setting.new ≡ record setting.old { gravity = setting.new.gravity } }
 {
     if !within(g, state.store.limit()) {
@@ -206,4 +208,124 @@ pub(crate) fn set_gravity<const L: usize>(
     }
     setting.gravity = g;
     Ok(())
+}
+
+/// The answer to a command that was done, or its refusal.
+fn told(outcome: Result<(), Refusal>, command: &Command) -> Reply
+    ensures { MatchResult outcome (λ _. result ≡ answer (deed command.now)) (λ refusal. result ≡ Reply.Refused refusal) }
+{
+    match outcome {
+        Ok(()) => command.answer(),
+        Err(refusal) => Reply::Refused(refusal),
+    }
+}
+
+impl<const L: usize, P: Projector<L> + Drop> Solver<L, P> {
+    /// Holds particle i where it is, and books its velocity, turned round, to pin. `NoParticle` where there is none, `Held`
+    /// where it is held.
+    pub fn pin<G: Ledger>(&mut self, i: u64, steps: &mut Steps<G>) -> Result<(), Refusal>
+        requires lanes_low { 0 < L }
+        requires lanes_high { L ≤ 16 }
+        ensures commanded { Commanded result (outcome self.old.world (Command.Pin i)) self.old.world self.new.world }
+        ensures projector { self.new.projector ≡ self.old.projector }
+        ensures copies { self.new.copies ≡ self.old.copies }
+        ensures cost { steps.new ≤ steps.old + 2 }
+    {
+        self.run.scratch.are_links_laid = false;
+        self.run.state.pin(i, steps)
+    }
+
+    /// Frees particle i, at rest. `NoParticle` where there is none, `NotHeld` where it is free, `Tracked` where a track
+    /// holds it.
+    pub fn unpin<G: Ledger>(&mut self, i: u64, steps: &mut Steps<G>) -> Result<(), Refusal>
+        requires lanes_low { 0 < L }
+        requires lanes_high { L ≤ 16 }
+        ensures commanded { Commanded result (outcome self.old.world (Command.Unpin i)) self.old.world self.new.world }
+        ensures projector { self.new.projector ≡ self.old.projector }
+        ensures copies { self.new.copies ≡ self.old.copies }
+        ensures cost { steps.new ≤ steps.old + 2 }
+    {
+        self.run.scratch.are_links_laid = false;
+        self.run.state.unpin(&self.setting, i, steps)
+    }
+
+    /// Puts the held particle i at a place, at rest. `NoParticle` where there is none, `OutOfRange` where the place is
+    /// outside the limit, `NotHeld` where it is free, `Tracked` where a track leads it.
+    pub fn place_held<G: Ledger>(
+        &mut self,
+        i: u64,
+        to: Vec3,
+        steps: &mut Steps<G>,
+    ) -> Result<(), Refusal>
+        requires lanes_low { 0 < L }
+        requires lanes_high { L ≤ 16 }
+        ensures commanded { Commanded result (outcome self.old.world (Command.Move i to)) self.old.world self.new.world }
+        ensures projector { self.new.projector ≡ self.old.projector }
+        ensures copies { self.new.copies ≡ self.old.copies }
+        ensures cost { steps.new ≤ steps.old + 2 }
+    {
+        self.run.state.place_held(&self.setting, i, to, steps)
+    }
+
+    /// Lets link l go, and mends the colours of the others. `NoLink` where there is none, `LinkGone` where it is live no
+    /// longer.
+    pub fn cut(&mut self, l: u64) -> Result<(), Refusal>
+        requires lanes_low { 0 < L }
+        requires lanes_high { L ≤ 16 }
+        ensures commanded { Commanded result (outcome self.old.world (Command.Cut l)) self.old.world self.new.world }
+        ensures projector { self.new.projector ≡ self.old.projector }
+        ensures copies { self.new.copies ≡ self.old.copies }
+    {
+        self.run.scratch.are_links_laid = false;
+        self.run.state.cut(&mut self.run.colours, l)
+    }
+
+    /// Sets gravity, in units per step squared. `OutOfRange` where it is outside the limit.
+    pub fn set_gravity(&mut self, g: Vec3) -> Result<(), Refusal>
+        requires lanes_low { 0 < L }
+        requires lanes_high { L ≤ 16 }
+        ensures commanded { Commanded result (outcome self.old.world (Command.Gravity g)) self.old.world self.new.world }
+        ensures projector { self.new.projector ≡ self.old.projector }
+        ensures copies { self.new.copies ≡ self.old.copies }
+    {
+        set_gravity(&mut self.setting, &self.run.state, g)
+    }
+
+    /// Does what a command asks for. `BadCommand` where its line was none.
+    #[tactic(auto, unfolding(pbd_world::specs::Work::command_work))]
+    fn carry_out<G: Ledger>(
+        &mut self,
+        command: &Command,
+        steps: &mut Steps<G>,
+    ) -> Result<(), Refusal>
+        requires lanes_low { 0 < L }
+        requires lanes_high { L ≤ 16 }
+        ensures commanded { Commanded result (outcome self.old.world command.now) self.old.world self.new.world }
+        ensures cost { steps.new ≤ steps.old + command_work L (P.width self.old.projector) self.old.world command.now }
+    {
+        let _ = &self.setting;
+        match command {
+            Command::Step(n) => self.steps(*n, steps),
+            Command::Pin(i) => self.pin(*i, steps),
+            Command::Unpin(i) => self.unpin(*i, steps),
+            Command::Move { particle, to } => self.place_held(*particle, *to, steps),
+            Command::Cut(l) => self.cut(*l),
+            Command::Gravity(g) => self.set_gravity(*g),
+            Command::Frame => Ok(()),
+            Command::Ledger => Ok(()),
+            Command::Bad => Err(Refusal::BadCommand),
+        }
+    }
+
+    /// Does a command, and answers it. A refused command changes nothing.
+    pub fn obey<G: Ledger>(&mut self, command: &Command, steps: &mut Steps<G>) -> Reply
+        requires lanes_low { 0 < L }
+        requires lanes_high { L ≤ 16 }
+        ensures does { IsAnswered self.old.world self.new.world command.now result }
+        // The particles are reached at most as often as the command's work says, also where it is refused.
+        ensures cost { steps.new ≤ steps.old + command_work L (P.width self.old.projector) self.old.world command.now }
+    {
+        let outcome = self.carry_out(command, steps);
+        told(outcome, command)
+    }
 }

@@ -2,8 +2,8 @@
 ghost use Rattle.std.specs.Prelude.{◌≡◌, ◌+◌, ◌-◌, ◌<◌, ◌≤◌, ◌^◌, min, length, IfOk, MatchResult, OnOk};
 ghost use Rattle.pbd_num.specs.Vectors.{Within};
 ghost use Rattle.pbd_world.specs.Ledger.{sum_of, ledger_of};
-ghost use Rattle.pbd_world.specs.Meaning.{run_steps, pin as pinned_world, unpin as unpinned_world, place_held as placed_world};
-ghost use Rattle.pbd_world.specs.Meaning.{cut as cut_world, set_gravity as pulled_world};
+ghost use Rattle.pbd_world.specs.declared.command.Command.TheVariants as commands;
+ghost use Rattle.pbd_world.specs.Meaning.{outcome};
 ghost use Rattle.pbd_world.specs.Momentum.{momentum as momentum_of};
 ghost use Rattle.pbd_world.specs.Particles.{particle_at};
 ghost use Rattle.pbd_world.specs.Work.{steps_work};
@@ -13,12 +13,10 @@ ghost use Rattle.pbd_step.specs.Solving.{bonds_over, IsSnapshot};
 ghost use Rattle.pbd_step.specs.Obeying.{Commanded};
 
 use crate::again::restore_coloured;
-use crate::commands::set_gravity;
 use crate::open::{open_kept, open_running};
 use crate::state::{Running, Setting, State};
 use pbd_colour::Colouring;
 use pbd_ledger::momentum;
-use pbd_num::Vec3;
 use pbd_pair::Projector;
 use pbd_store::Steps;
 use pbd_world::{LAST_STEP, MOST_STEPS, Particle, Refusal, Scene, Totals};
@@ -82,7 +80,7 @@ impl<const L: usize, P: Projector<L> + Drop> Solver<L, P> {
     pub fn steps<G: Ledger>(&mut self, n: u64, steps: &mut Steps<G>) -> Result<(), Refusal>
         requires lanes_low { 0 < L }
         requires lanes_high { L ≤ 16 }
-        ensures commanded { Commanded result (run_steps self.old.world n) self.old.world self.new.world }
+        ensures commanded { Commanded result (outcome self.old.world (commands.Step n)) self.old.world self.new.world }
         // Where the steps were taken, the projector was handed as many bonds as their passes have live links and contacts,
         // counted up to 2^64 - 1. Which bonds these were, no clause says.
         ensures handed { OnOk result
@@ -102,76 +100,6 @@ impl<const L: usize, P: Projector<L> + Drop> Solver<L, P> {
             return Err(Refusal::StepLimit);
         }
         self.run.run_whole(&self.setting, &mut self.kept, n, steps)
-    }
-
-    /// Holds particle i where it is, and books its velocity, turned round, to pin. `NoParticle` where there is none, `Held`
-    /// where it is held.
-    pub fn pin<G: Ledger>(&mut self, i: u64, steps: &mut Steps<G>) -> Result<(), Refusal>
-        requires lanes_low { 0 < L }
-        requires lanes_high { L ≤ 16 }
-        ensures commanded { Commanded result (pinned_world self.old.world i) self.old.world self.new.world }
-        ensures projector { self.new.projector ≡ self.old.projector }
-        ensures copies { self.new.copies ≡ self.old.copies }
-        ensures cost { steps.new ≤ steps.old + 2 }
-    {
-        self.run.scratch.are_links_laid = false;
-        self.run.state.pin(i, steps)
-    }
-
-    /// Frees particle i, at rest. `NoParticle` where there is none, `NotHeld` where it is free, `Tracked` where a track
-    /// holds it.
-    pub fn unpin<G: Ledger>(&mut self, i: u64, steps: &mut Steps<G>) -> Result<(), Refusal>
-        requires lanes_low { 0 < L }
-        requires lanes_high { L ≤ 16 }
-        ensures commanded { Commanded result (unpinned_world self.old.world i) self.old.world self.new.world }
-        ensures projector { self.new.projector ≡ self.old.projector }
-        ensures copies { self.new.copies ≡ self.old.copies }
-        ensures cost { steps.new ≤ steps.old + 2 }
-    {
-        self.run.scratch.are_links_laid = false;
-        self.run.state.unpin(&self.setting, i, steps)
-    }
-
-    /// Puts the held particle i at a place, at rest. `NoParticle` where there is none, `OutOfRange` where the place is
-    /// outside the limit, `NotHeld` where it is free, `Tracked` where a track leads it.
-    pub fn place_held<G: Ledger>(
-        &mut self,
-        i: u64,
-        to: Vec3,
-        steps: &mut Steps<G>,
-    ) -> Result<(), Refusal>
-        requires lanes_low { 0 < L }
-        requires lanes_high { L ≤ 16 }
-        ensures commanded { Commanded result (placed_world self.old.world i to) self.old.world self.new.world }
-        ensures projector { self.new.projector ≡ self.old.projector }
-        ensures copies { self.new.copies ≡ self.old.copies }
-        ensures cost { steps.new ≤ steps.old + 2 }
-    {
-        self.run.state.place_held(&self.setting, i, to, steps)
-    }
-
-    /// Lets link l go, and mends the colours of the others. `NoLink` where there is none, `LinkGone` where it is live no
-    /// longer.
-    pub fn cut(&mut self, l: u64) -> Result<(), Refusal>
-        requires lanes_low { 0 < L }
-        requires lanes_high { L ≤ 16 }
-        ensures commanded { Commanded result (cut_world self.old.world l) self.old.world self.new.world }
-        ensures projector { self.new.projector ≡ self.old.projector }
-        ensures copies { self.new.copies ≡ self.old.copies }
-    {
-        self.run.scratch.are_links_laid = false;
-        self.run.state.cut(&mut self.run.colours, l)
-    }
-
-    /// Sets gravity, in units per step squared. `OutOfRange` where it is outside the limit.
-    pub fn set_gravity(&mut self, g: Vec3) -> Result<(), Refusal>
-        requires lanes_low { 0 < L }
-        requires lanes_high { L ≤ 16 }
-        ensures commanded { Commanded result (pulled_world self.old.world g) self.old.world self.new.world }
-        ensures projector { self.new.projector ≡ self.old.projector }
-        ensures copies { self.new.copies ≡ self.old.copies }
-    {
-        set_gravity(&mut self.setting, &self.run.state, g)
     }
 
     /// Takes over the world of another solver of one scene.

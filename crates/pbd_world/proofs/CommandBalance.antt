@@ -1,47 +1,29 @@
 -- Every command keeps the balance of momentum and ledger.
-use Rattle.std.proofs.Common.{◌≡◌, ◌≢◌, refl, sym, ap, ◌∙◌, ℕ, ◌<◌, Bool, true, false, not, List, [], ◌∷◌, length, arith, ℤ, ◌+ℤ◌}
-use Rattle.std.specs.Prelude.{Result, Ok, Err, IfOk, IsTrue, if◌then◌else◌, slice_set, nat_le, ◌==◌}
+use Rattle.std.proofs.Common.{◌≡◌, ◌≢◌, sym, ap, ◌∙◌, ℕ, ◌<◌, Bool, true, not, List, [], ◌∷◌, length, arith, ℤ, ◌+ℤ◌}
+use Rattle.std.specs.Prelude.{IsTrue, slice_set, ◌==◌}
 use Rattle.std.specs.List.{AllByRecursion, list_all}
 use Rattle.std.proofs.lemmas.Int.{ints}
-use Rattle.std.proofs.lemmas.Bool.{and_parts, ltb-true, leb-false, eq-eqb, false≢true, not-false}
-use Rattle.pbd_num.specs.declared.Vec3.{Vec3}
-use Rattle.pbd_num.specs.Vectors.{opposite}
+use Rattle.std.proofs.lemmas.Bool.{and_parts, ltb-true, eq-eqb, false≢true}
 use Rattle.pbd_world.specs.declared.parts.Particle.{Particle}
 use Rattle.pbd_world.specs.declared.parts.Link.{Link}
 use Rattle.pbd_world.specs.declared.command.Command.{Command}
-use Rattle.pbd_world.specs.declared.command.Command.TheVariants as commands
-use Rattle.pbd_world.specs.declared.command.Refusal.{Refusal}
-use Rattle.pbd_world.specs.declared.totals.Class.TheVariants as classes
-use Rattle.pbd_world.specs.Ledger.{Sum, zero_sum, sum_plus, both_sums, all_totals}
-use Rattle.pbd_world.specs.Particles.{velocity, particle_at}
+use Rattle.pbd_world.specs.Ledger.{Sum, both_sums, all_totals}
+use Rattle.pbd_world.specs.Particles.{particle_at}
 use Rattle.pbd_world.specs.Momentum.{momentum, IsBalanced}
 use Rattle.pbd_world.specs.Valid.{is_valid_link, is_well_formed}
 use Rattle.pbd_world.specs.World.{World, parts_of, IsSound}
-use Rattle.pbd_world.specs.Outcomes.{unless}
 use Rattle.pbd_world.specs.Bonds.{link_at}
-use Rattle.pbd_world.specs.Meaning.{refusals, pinned, unpinned, put_at, without_link, run_steps, steps_of, pin, unpin, place_held, cut}
-use Rattle.pbd_world.specs.Meaning.{set_gravity, done_or_refused, meaning, after}
+use Rattle.pbd_world.specs.Meaning.{Edit, Deed, deed, edited, steps_of, after}
+use Rattle.pbd_world.specs.Meaning.Edit.{OnParticle, OnLink, OnGravity}
+use Rattle.pbd_world.specs.Meaning.Deed.{Steps, Edits, Answers}
 use Rattle.pbd_world.specs.Step.{step}
-use Rattle.pbd_world.proofs.MomentumLemmas.{same_sum, part_by, part, momentum_set, added_all}
-use Rattle.pbd_world.proofs.KeepingOn.{bind-keeps, repeat-keeps, all-at}
+use Rattle.pbd_world.proofs.MomentumLemmas.{same_sum, part, momentum_set}
+use Rattle.pbd_world.proofs.KeepingOn.{repeat-keeps, all-at}
+use Rattle.pbd_world.proofs.CountingOn.{ok_weaker}
 use Rattle.pbd_world.proofs.StepBalance.{IsReady, step-ready}
 use Rattle.pbd_world.proofs.WorldParts.{formed}
-
--- ---- a value that no test refuses
-
-refused_by : {A E : Type 0} (P : A → Type 0) (b : Bool) (e : E) (r : Result A E) → (b ≡ false → IfOk r P) → IfOk (if b then Err e else r) P
-refused_by P true e r h = tt
-refused_by P false e r h = h refl
-
-pub unless-keeps : {A E : Type 0} (P : A → Type 0) (tests : List (Bool × E)) (x : A)
-    → (AllByRecursion {X = Bool × E} (λ t. t.0 ≡ false) tests → P x) → IfOk (unless tests x) P
-unless-keeps P [] x h = h tt
-unless-keeps P (t ∷ tests) x h = refused_by P t.0 t.1 (unless tests x) (λ e. unless-keeps P tests x (λ es. h (e, es)))
-
--- ---- one particle
-
-pub there : (n i : ℕ) → nat_le n i ≡ false → i < n
-there n i e = leb-false n i e
+use Rattle.pbd_world.proofs.Deeds.{Leads, command-leads}
+use Rattle.pbd_world.proofs.Allowed.{IsAllowed, IsSafe, allowed}
 
 set_terms : (n m a b s o t : ℤ) → n +ℤ a ≡ m +ℤ b → m ≡ o +ℤ s → b +ℤ s ≡ a +ℤ t → n ≡ o +ℤ t
 set_terms n m a b s o t h k e = omega (arith, ints, h, k, e)
@@ -62,93 +44,22 @@ exchanged w i q t h even k =
     (set_terms n.y m.y a.y b.y s.y w.opening.y t.y (ap (λ (u : Sum). u.y) set) (ap (λ (u : Sum). u.y) k) (ap (λ (u : Sum). u.y) even))
     (set_terms n.z m.z a.z b.z s.z w.opening.z t.z (ap (λ (u : Sum). u.z) set) (ap (λ (u : Sum). u.z) k) (ap (λ (u : Sum). u.z) even))
 
--- what is taken of a momentum and given to the totals
-given : (s : Sum) (v : Vec3) → both_sums zero_sum s ≡ both_sums (sum_plus zero_sum v) (sum_plus s (opposite v))
-given s v = same_sum (both_sums zero_sum s) (both_sums (sum_plus zero_sum v) (sum_plus s (opposite v))) (omega (arith, ints))
-    (omega (arith, ints)) (omega (arith, ints))
-
--- a particle at rest adds nothing
-resting : (s : Sum) (p : Particle) → both_sums (part_by false (velocity (record p { before = p.at }))) s ≡ both_sums zero_sum s
-resting s p = same_sum (both_sums (part_by false (velocity (record p { before = p.at }))) s) (both_sums zero_sum s) (omega (arith, ints))
-    (omega (arith, ints)) (omega (arith, ints))
-
-pinned-balanced : (w : World) (i : ℕ) → i < length w.particles → (particle_at w.particles i).held ≡ false
-    → IsBalanced w.opening w.totals w.particles → IsBalanced w.opening (pinned w i (particle_at w.particles i)).totals
-    (pinned w i (particle_at w.particles i)).particles
-pinned-balanced w i h e =
-    let p = particle_at w.particles i in
-    exchanged w i (record p { before = p.at; held = true }) (all_totals (pinned w i p).totals) h
-    (given (all_totals w.totals) (velocity p)
-    ∙ ap (λ (held : Bool). both_sums (part_by held (velocity p)) (sum_plus (all_totals w.totals) (opposite (velocity p)))) (sym e)
-    ∙ ap (both_sums (part p)) (sym (added_all w.totals classes.Pin (opposite (velocity p)))))
-
-unpinned-balanced : (w : World) (i : ℕ) → i < length w.particles → (particle_at w.particles i).held ≡ true
-    → IsBalanced w.opening w.totals w.particles → IsBalanced w.opening w.totals (unpinned w i (particle_at w.particles i)).particles
-unpinned-balanced w i h e =
-    let p = particle_at w.particles i in
-    exchanged w i (record p { before = p.at; held = false }) (all_totals w.totals) h
-    (resting (all_totals w.totals) p ∙ ap (λ (held : Bool). both_sums (part_by held (velocity p)) (all_totals w.totals)) (sym e))
-
-put-balanced : (w : World) (i : ℕ) (to : Vec3) → i < length w.particles → (particle_at w.particles i).held ≡ true
-    → IsBalanced w.opening w.totals w.particles → IsBalanced w.opening w.totals (put_at w i (particle_at w.particles i) to).particles
-put-balanced w i to h e =
-    let p = particle_at w.particles i in
-    let q : Particle = record p { at = to; before = to } in
-    exchanged w i q (all_totals w.totals) h
-    (ap (λ (held : Bool). both_sums (part_by held (velocity q)) (all_totals w.totals)) e
-    ∙ ap (λ (held : Bool). both_sums (part_by held (velocity p)) (all_totals w.totals)) (sym e))
-
 -- ---- the commands
 
-pin-keeps : (w : World) (i : ℕ) → IsReady w → IfOk (pin w i) (λ v. IsBalanced v.opening v.totals v.particles)
-pin-keeps w i r = unless-keeps (λ v. IsBalanced v.opening v.totals v.particles) (refusals w (commands.Pin i))
-    (pinned w i (particle_at w.particles i)) (λ es. pinned-balanced w i (there (length w.particles) i es.0) es.1.0 r.balance)
+abbrev Balances : World → Type 0
+Balances w = IsBalanced w.opening w.totals w.particles
 
-unpin-keeps : (w : World) (i : ℕ) → IsReady w → IfOk (unpin w i) (λ v. IsBalanced v.opening v.totals v.particles)
-unpin-keeps w i r = unless-keeps (λ v. IsBalanced v.opening v.totals v.particles) (refusals w (commands.Unpin i))
-    (unpinned w i (particle_at w.particles i)) (λ es. unpinned-balanced w i (there (length w.particles) i es.0)
-    (not-false (particle_at w.particles i).held es.1.0) r.balance)
+edit_balances : (w : World) (edit : Edit) → IsSafe w edit → Balances w → Balances (edited w edit)
+edit_balances w (OnParticle i change lost) safe h =
+    exchanged w i (change (particle_at w.particles i)) (all_totals (edited w (OnParticle i change lost)).totals) safe.there safe.even h
+edit_balances w (OnLink n) safe h = h
+edit_balances w (OnGravity g) safe h = h
 
-place-keeps : (w : World) (i : ℕ) (to : Vec3) → IsReady w → IfOk (place_held w i to) (λ v. IsBalanced v.opening v.totals v.particles)
-place-keeps w i to r = unless-keeps (λ v. IsBalanced v.opening v.totals v.particles) (refusals w (commands.Move i to))
-    (put_at w i (particle_at w.particles i) to) (λ es. put-balanced w i to (there (length w.particles) i es.0)
-    (not-false (particle_at w.particles i).held es.1.1.0) r.balance)
-
-cut-keeps : (w : World) (n : ℕ) → IsReady w → IfOk (cut w n) (λ v. IsBalanced v.opening v.totals v.particles)
-cut-keeps w n r = unless-keeps (λ v. IsBalanced v.opening v.totals v.particles) (refusals w (commands.Cut n)) (without_link w n)
-    (λ es. r.balance)
-
-gravity-keeps : (w : World) (g : Vec3) → IsReady w → IfOk (set_gravity w g) (λ v. IsBalanced v.opening v.totals v.particles)
-gravity-keeps w g r = unless-keeps (λ v. IsBalanced v.opening v.totals v.particles) (refusals w (commands.Gravity g))
-    (record w { gravity = g }) (λ es. r.balance)
-
-steps-keep : (w : World) (n : ℕ) → IsReady w → IfOk (run_steps w n) (λ v. IsBalanced v.opening v.totals v.particles)
-steps-keep w n r =
-    bind-keeps IsReady (λ v. IsBalanced v.opening v.totals v.particles) (unless (refusals w (commands.Step n)) w) (steps_of n)
-    (unless-keeps IsReady (refusals w (commands.Step n)) w (λ es. r))
-    (λ v k. weaker (steps_of n v) (repeat-keeps IsReady step (λ u j. step-ready u j) n v k))
-  where
-    weaker : (x : Result World Refusal) → IfOk x IsReady → IfOk x (λ v. IsBalanced v.opening v.totals v.particles)
-    weaker (Ok v) h = h.balance
-    weaker (Err e) h = tt
-
-done-keeps : (w : World) (r : Result World Refusal) → IsBalanced w.opening w.totals w.particles
-    → IfOk r (λ v. IsBalanced v.opening v.totals v.particles)
-    → IsBalanced (done_or_refused w r).0.opening (done_or_refused w r).0.totals (done_or_refused w r).0.particles
-done-keeps w (Ok v) h k = k
-done-keeps w (Err e) h k = h
-
-command-keeps : (w : World) (c : Command) → IsReady w → IsBalanced (after w c).opening (after w c).totals (after w c).particles
-unfolding meaning
-command-keeps w (commands.Step n) r = done-keeps w (run_steps w n) r.balance (steps-keep w n r)
-command-keeps w commands.Frame r = r.balance
-command-keeps w (commands.Pin i) r = done-keeps w (pin w i) r.balance (pin-keeps w i r)
-command-keeps w (commands.Unpin i) r = done-keeps w (unpin w i) r.balance (unpin-keeps w i r)
-command-keeps w (commands.Move i to) r = done-keeps w (place_held w i to) r.balance (place-keeps w i to r)
-command-keeps w (commands.Cut n) r = done-keeps w (cut w n) r.balance (cut-keeps w n r)
-command-keeps w (commands.Gravity g) r = done-keeps w (set_gravity w g) r.balance (gravity-keeps w g r)
-command-keeps w commands.Ledger r = r.balance
-command-keeps w commands.Bad r = r.balance
+deed_balances : (w : World) (d : Deed) → IsReady w → IsAllowed w d → Leads Balances w d
+deed_balances w (Steps n) ready allows =
+    ok_weaker IsReady Balances (steps_of n w) (λ v h. h.balance) (repeat-keeps IsReady step (λ u j. step-ready u j) n w ready)
+deed_balances w (Edits edit) ready allows = edit_balances w edit allows ready.balance
+deed_balances w (Answers reply) ready allows = tt
 
 -- ---- a sound world is ready
 
@@ -180,4 +91,5 @@ sound-ready w s = record {
 }
 
 pub sound-balanced : (w : World) (c : Command) → IsSound w → IsBalanced (after w c).opening (after w c).totals (after w c).particles
-sound-balanced w c s = command-keeps w c (sound-ready w s)
+sound-balanced w c s =
+    command-leads Balances w c s.balanced (λ es. deed_balances w (deed c) (sound-ready w s) (allowed w c s es))

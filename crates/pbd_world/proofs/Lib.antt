@@ -2,7 +2,8 @@ mod Rows
 mod WorkRows
 pub mod GreedyLemmas
 pub mod VerbLaws
-pub mod KeepingLemmas
+pub mod Deeds
+pub mod Allowed
 pub mod OpenedLemmas
 pub mod MomentumLemmas
 pub mod BalanceLemmas

@@ -1,12 +1,10 @@
 -- The world that opens from valid parts is sound.
 use Rattle.std.proofs.Common.{◌≡◌, refl, ℕ, ◌+◌, ◌*◌, ◌≤◌, ◌^◌, Bool, true, false, not, ◌&&◌, ◌||◌, List, [], ◌∷◌, length, map, arith, ℤ}
-use Rattle.std.proofs.Common.{pos, ◌+ℤ◌, ◌≤ℤ◌, unsigned_abs, inl, inr}
+use Rattle.std.proofs.Common.{pos, ◌+ℤ◌, ◌≤ℤ◌, unsigned_abs}
 use Rattle.std.specs.Prelude.{IsTrue, filter, fold, nat_le, cond}
 use Rattle.std.specs.List.{list_all, enumerate_from}
-use Rattle.std.specs.Ordering.{int_eq}
 use Rattle.std.proofs.lemmas.Int.{ints}
-use Rattle.std.proofs.lemmas.Bool.{and_parts, and_from, cases_Bool, leb-true}
-use Rattle.std.proofs.lemmas.Bool.Decides.{Decides-int_eq}
+use Rattle.std.proofs.lemmas.Bool.{and_parts, and_from, leb-true}
 use Rattle.pbd_num.specs.Vectors.{is_within, Within}
 use Rattle.pbd_num.proofs.Ranges.{within_facts}
 use Rattle.pbd_num.proofs.Sizes.{size-sub}
@@ -16,7 +14,7 @@ use Rattle.pbd_world.specs.declared.parts.Parts.{Parts}
 use Rattle.pbd_world.specs.Ledger.{Sum, SumWithin, zero_sum, sum_plus, both_sums, zero_totals, all_totals}
 use Rattle.pbd_world.specs.Particles.{velocity, is_free}
 use Rattle.pbd_world.specs.Momentum.{momentum}
-use Rattle.pbd_world.specs.Valid.{is_limit, is_valid_particle, are_valid_particles, is_at_rest, is_well_formed, is_valid}
+use Rattle.pbd_world.specs.Valid.{is_valid_particle, is_at_rest, is_valid}
 use Rattle.pbd_world.specs.World.{opened, is_tracked, IsSound}
 use Rattle.pbd_world.proofs.Rooms.{sum_grows, sum_wider}
 use Rattle.pbd_world.proofs.WorldParts.{formed}

@@ -12,7 +12,6 @@ use Rattle.pbd_world.specs.Particles.{no_particle, particle_at}
 use Rattle.pbd_world.specs.Momentum.{IsBalanced}
 use Rattle.pbd_world.specs.Valid.{is_valid_particle, is_at_rest, are_tracked_held}
 use Rattle.pbd_world.specs.World.{World, parts_of, is_tracked, IsSound, AreBounded, unchanging, AreOfOneScene}
-use Rattle.pbd_world.specs.Meaning.{with_particle}
 use Rattle.pbd_world.proofs.KeptLemmas.{zip_set}
 use Rattle.pbd_world.proofs.PredictGoes.{rests, all_rest}
 use Rattle.pbd_world.proofs.SameShape.{all_blank, weights_same, have_weight, still_formed}
@@ -110,7 +109,7 @@ pub record FitsIn (w : World) (i : ℕ) (q : Particle) : Type 0 where
   pub rest : rests w.tracks i q ≡ true
 
 abbrev pub other : World → ℕ → Particle → Ledger → World
-other w i q t = record (with_particle w i q) { totals = t }
+other w i q t = record w { particles = set w.particles i q; totals = t }
 
 pub set_sound : (w : World) (i : ℕ) (q : Particle) (t : Ledger) → IsSound w → i < length w.particles → FitsIn w i q → AgreeButPin w.totals t
     → IsBalanced w.opening t (set w.particles i q) → IsSound (other w i q t)

@@ -1,15 +1,13 @@
--- What holds of the world that a step or a command comes to.
+-- What holds of the world that a step comes to.
 use Rattle.std.proofs.Common.{ℕ, ◌+◌, Bool, true, false, List, length, ◌≡◌, refl}
 use Rattle.std.specs.Prelude.{Result, Ok, Err, IfOk, if◌then◌else◌, nat_lt}
 use Rattle.pbd_world.specs.declared.command.Phase.TheVariants as phases
-use Rattle.pbd_world.specs.declared.command.Refusal.{Refusal}
 use Rattle.pbd_world.specs.declared.command.Refusal.TheVariants.{TooManyContacts}
 use Rattle.pbd_world.specs.World.{World}
 use Rattle.pbd_world.specs.Outcomes.{◌>>=◌, with_fault, repeated}
 use Rattle.pbd_world.specs.Particles.{Motion}
 use Rattle.pbd_world.specs.Contacts.{contacts_of}
 use Rattle.pbd_world.specs.Step.{predict, leaves, Passing, pass, untouched, rub, settled, after_contacts, step}
-use Rattle.pbd_world.specs.Meaning.{done_or_refused}
 use Rattle.pbd_world.proofs.KeepingOn.{bind-keeps, fault-keeps, repeat-keeps}
 
 unless_many : {A E : Type 0} (P : A → Type 0) (many : Bool) (e : E) (r : Result A E) → IfOk r P → IfOk (if many then Err e else r) P
@@ -45,10 +43,6 @@ pub step-leads : (R : World → Type 0) (w : World) → ((pairs : List (ℕ × �
 step-leads R w ends =
     step-keeps w (λ m. Unit {0}) (λ s. Unit {0}) R (anything (predict w)) (λ m h. tt) (λ pairs s h. anything (pass w pairs s))
     (λ pairs s h. ends pairs (rub w.friction s))
-
-pub done-leads : (P : World → Type 0) (w : World) (r : Result World Refusal) → P w → IfOk r P → P (done_or_refused w r).0
-done-leads P w (Ok v) h k = k
-done-leads P w (Err e) h k = h
 
 -- each step counts once
 pub step_counts : (w : World) → IfOk (step w) (λ v. v.steps ≡ w.steps + 1)

@@ -1,19 +1,18 @@
 -- Taking a command apart and putting it together are each other's inverse, and no two rows have one word or one code.
 use Rattle.std.proofs.Common.{◌≡◌, sym, refl, subst, ℕ, Option, Some, List, [], ◌∷◌, Bool, true, false, cond}
-use Rattle.std.specs.Prelude.{◌==◌, ◌&&◌, bytes_eq}
+use Rattle.std.specs.Prelude.{◌==◌, ◌&&◌, bytes_eq, IfSome}
 use Rattle.std.specs.List.{find, list_all}
 use Rattle.std.proofs.lemmas.Bool.{and_parts, eqb-true}
 use Rattle.std.proofs.lemmas.Slice.Eq.{bytes_eq-Decides}
-use Rattle.std.specs.Option.{option_map}
 use Rattle.pbd_num.specs.declared.Vec3.{Vec3}
 use Rattle.pbd_world.specs.declared.command.Command.{Command}
-use Rattle.pbd_world.specs.declared.command.Command.TheVariants.{Step, Frame, Pin, Unpin, Move, Cut, Gravity, Ledger, Bad}
-use Rattle.pbd_world.specs.declared.verb.Verb.{Verb}
-use Rattle.pbd_world.specs.declared.verb.Verb.TheVariants as verbs
-use Rattle.pbd_world.specs.declared.verb.Operands.{Operands}
-use Rattle.pbd_world.specs.declared.verb.Operands.TheVariants.{Nothing, Number, Vector, NumberAndVector}
-use Rattle.pbd_world.specs.Verbs.{TableRow, row, all_verbs, verb_named, verb_coded, verb_and_operands, alone, the_number, the_vector}
-use Rattle.pbd_world.specs.Verbs.{number_and_vector, command_with, kind_of}
+use Rattle.pbd_world.specs.declared.command.Command.TheVariants.{Step}
+use Rattle.pbd_world.specs.declared.command.Verb.{Verb}
+use Rattle.pbd_world.specs.declared.command.Verb.TheVariants as verbs
+use Rattle.pbd_world.specs.declared.command.Operands.{Operands}
+use Rattle.pbd_world.specs.declared.command.Operands.TheVariants.{Nothing, Number, Vector, NumberAndVector}
+use Rattle.pbd_world.specs.Verbs.{TableRow, row, all_verbs, verb_named, verb_coded, verb_and_operands}
+use Rattle.pbd_world.specs.Verbs.{command_with, kind_of}
 
 -- ---- what is found passes
 
@@ -49,14 +48,7 @@ pub record IsFound (v : Verb) : Type 0 where
 pub verb_found : (v : Verb) → IsFound v
 unfolding verb_named verb_coded row
 verb_found verbs.Step = record { named = refl; coded = refl }
-verb_found verbs.Frame = record { named = refl; coded = refl }
-verb_found verbs.Pin = record { named = refl; coded = refl }
-verb_found verbs.Unpin = record { named = refl; coded = refl }
-verb_found verbs.Move = record { named = refl; coded = refl }
-verb_found verbs.Cut = record { named = refl; coded = refl }
-verb_found verbs.Gravity = record { named = refl; coded = refl }
-verb_found verbs.Ledger = record { named = refl; coded = refl }
-verb_found verbs.Bad = record { named = refl; coded = refl }
+verb_found v = record { named = refl; coded = refl }
 
 -- so a test that all rows pass is passed by each verb's
 pub rows_pass : (test : TableRow → Bool) → list_all (λ v. test (row v)) all_verbs ≡ true → (v : Verb) → test (row v) ≡ true
@@ -81,54 +73,33 @@ pub record IsTogether (c : Command) : Type 0 where
 pub together : (c : Command) → IsTogether c
 unfolding row
 together (Step n) = record { again = refl; kind = refl }
-together Frame = record { again = refl; kind = refl }
-together (Pin i) = record { again = refl; kind = refl }
-together (Unpin i) = record { again = refl; kind = refl }
-together (Move i to) = record { again = refl; kind = refl }
-together (Cut n) = record { again = refl; kind = refl }
-together (Gravity g) = record { again = refl; kind = refl }
-together Ledger = record { again = refl; kind = refl }
-together Bad = record { again = refl; kind = refl }
+together c = record { again = refl; kind = refl }
 
-abbrev Parted : Verb → Operands → Command → Type 0
-Parted v o c = verb_and_operands c ≡ (v, o)
+-- what command_with gives of operands is taken apart into these again
+abbrev Parted : Verb → Operands → Type 0
+Parted v o = IfSome (command_with v o) (λ c. verb_and_operands c ≡ (v, o))
 
-by_itself : (v : Verb) (command : Command) (o : Operands) (c : Command) → Parted v Nothing command → alone command o ≡ Some c → Parted v o c
-by_itself v command Nothing c is e = let same : command ≡ c = cc in subst (λ d. Parted v Nothing d) same is
-by_itself v command (Number n) c is e = cc
-by_itself v command (Vector w) c is e = cc
-by_itself v command (NumberAndVector n w) c is e = cc
+parted_nothing : (v : Verb) → Parted v Nothing
+parted_nothing verbs.Frame = refl
+parted_nothing v = search
 
-by_number : (v : Verb) (command : ℕ → Command) (o : Operands) (c : Command) → ((n : ℕ) → Parted v (Number n) (command n))
-    → option_map (λ n. command n) (the_number o) ≡ Some c → Parted v o c
-by_number v command Nothing c is e = cc
-by_number v command (Number n) c is e = let same : command n ≡ c = cc in subst (λ d. Parted v (Number n) d) same (is n)
-by_number v command (Vector w) c is e = cc
-by_number v command (NumberAndVector n w) c is e = cc
+parted_number : (v : Verb) (n : ℕ) → Parted v (Number n)
+parted_number verbs.Step n = refl
+parted_number v n = search
 
-by_vector : (v : Verb) (command : Vec3 → Command) (o : Operands) (c : Command) → ((w : Vec3) → Parted v (Vector w) (command w))
-    → option_map (λ w. command w) (the_vector o) ≡ Some c → Parted v o c
-by_vector v command Nothing c is e = cc
-by_vector v command (Number n) c is e = cc
-by_vector v command (Vector w) c is e = let same : command w ≡ c = cc in subst (λ d. Parted v (Vector w) d) same (is w)
-by_vector v command (NumberAndVector n w) c is e = cc
+parted_vector : (v : Verb) (w : Vec3) → Parted v (Vector w)
+parted_vector verbs.Gravity w = refl
+parted_vector v w = search
 
-by_both : (v : Verb) (command : ℕ → Vec3 → Command) (o : Operands) (c : Command)
-    → ((n : ℕ) (w : Vec3) → Parted v (NumberAndVector n w) (command n w))
-    → option_map (λ x. command x.0 x.1) (number_and_vector o) ≡ Some c → Parted v o c
-by_both v command Nothing c is e = cc
-by_both v command (Number n) c is e = cc
-by_both v command (Vector w) c is e = cc
-by_both v command (NumberAndVector n w) c is e =
-    let same : command n w ≡ c = cc in subst (λ d. Parted v (NumberAndVector n w) d) same (is n w)
+parted_both : (v : Verb) (n : ℕ) (w : Vec3) → Parted v (NumberAndVector n w)
+parted_both verbs.Move n w = refl
+parted_both v n w = search
 
-pub parted : (v : Verb) (o : Operands) (c : Command) → command_with v o ≡ Some c → Parted v o c
-parted verbs.Step o c e = by_number verbs.Step (λ n. Step n) o c (λ n. refl) e
-parted verbs.Frame o c e = by_itself verbs.Frame Frame o c refl e
-parted verbs.Pin o c e = by_number verbs.Pin (λ i. Pin i) o c (λ i. refl) e
-parted verbs.Unpin o c e = by_number verbs.Unpin (λ i. Unpin i) o c (λ i. refl) e
-parted verbs.Move o c e = by_both verbs.Move (λ i to. Move i to) o c (λ i to. refl) e
-parted verbs.Cut o c e = by_number verbs.Cut (λ n. Cut n) o c (λ n. refl) e
-parted verbs.Gravity o c e = by_vector verbs.Gravity (λ g. Gravity g) o c (λ g. refl) e
-parted verbs.Ledger o c e = by_itself verbs.Ledger Ledger o c refl e
-parted verbs.Bad o c e = by_itself verbs.Bad Bad o c refl e
+parted_as : (v : Verb) (o : Operands) → Parted v o
+parted_as v Nothing = parted_nothing v
+parted_as v (Number n) = parted_number v n
+parted_as v (Vector w) = parted_vector v w
+parted_as v (NumberAndVector n w) = parted_both v n w
+
+pub parted : (v : Verb) (o : Operands) (c : Command) → command_with v o ≡ Some c → verb_and_operands c ≡ (v, o)
+parted v o c e = subst {A = Option Command} (λ x. IfSome x (λ d. verb_and_operands d ≡ (v, o))) e (parted_as v o)

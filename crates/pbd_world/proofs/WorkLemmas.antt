@@ -16,15 +16,17 @@ use Rattle.pbd_world.specs.declared.parts.Particle.{Particle}
 use Rattle.pbd_world.specs.Colours.{colour, of_colour, order}
 use Rattle.pbd_world.specs.Contacts.{contacts_of, is_contact, all_pairs, are_near, link_pairs, live_flags}
 use Rattle.pbd_world.specs.Particles.{Motion, particle_at}
-use Rattle.pbd_world.specs.Meaning.{after, refusals}
+use Rattle.pbd_world.specs.Meaning.{Deed, deed, refusals, after}
+use Rattle.pbd_world.specs.Meaning.Edit.{OnParticle}
+use Rattle.pbd_world.specs.Meaning.Deed.{Steps, Edits}
 use Rattle.pbd_world.specs.Outcomes.{unless}
 use Rattle.pbd_world.specs.Step.{predict, step}
 use Rattle.pbd_world.specs.Shapes.{shapes_of}
 use Rattle.pbd_world.specs.World.{World, IsSound, live_count}
 use Rattle.pbd_world.specs.Work.{blocks_in, of_colour_count, colour_work, colours_work, bonds_work, links_work, contacts_work, colours_used}
 use Rattle.pbd_world.specs.Work.{beginning_work, finding_work, shapes_work, pass_work, friction_work, tearable_count, settling_work}
-use Rattle.pbd_world.specs.Work.{finishing_work, step_work, found_after, found_in, work_from, work_over, steps_work, command_work}
-use Rattle.pbd_world.specs.Work.{session_work}
+use Rattle.pbd_world.specs.Work.{finishing_work, step_work, found_after, found_in, work_from, work_over, steps_work, deed_work}
+use Rattle.pbd_world.specs.Work.{command_work, session_work}
 use Rattle.pbd_world.proofs.BatchLemmas.{sound-none_last}
 use Rattle.pbd_world.proofs.OrderCounts.{total, flat_total, kept_more, links_count, contacts_count}
 use Rattle.pbd_world.proofs.PieceLemmas.{pieces_fewer, pieces_each, pieces_half, pieces_some, whole_pieces, some_of}
@@ -278,18 +280,16 @@ module _ (width lanes wider_width more_lanes : ℕ) (some : 0 < width) (wide : w
         from_wider (work_over wider_width more_lanes n) (work_over width lanes n) (step w) (over_wider n),
       )
 
-  pub command_wider : (w : World) (command : Command) → command_work wider_width more_lanes w command ≤ command_work width lanes w command
-  unfolding command_work steps_work
-  command_wider w (commands.Step n) = from_wider (work_over wider_width more_lanes n) (work_over width lanes n)
+  deed_wider : (w : World) (deed : Deed) → deed_work wider_width more_lanes w deed ≤ deed_work width lanes w deed
+  unfolding steps_work
+  deed_wider w (Steps n) = from_wider (work_over wider_width more_lanes n) (work_over width lanes n)
       (unless (refusals w (commands.Step n)) w) (over_wider n)
-  command_wider w commands.Frame = omega arith
-  command_wider w (commands.Pin i) = omega arith
-  command_wider w (commands.Unpin i) = omega arith
-  command_wider w (commands.Move i to) = omega arith
-  command_wider w (commands.Cut n) = omega arith
-  command_wider w (commands.Gravity g) = omega arith
-  command_wider w commands.Ledger = omega arith
-  command_wider w commands.Bad = omega arith
+  deed_wider w (Edits (OnParticle i change lost)) = omega arith
+  deed_wider w deed = omega arith
+
+  pub command_wider : (w : World) (command : Command) → command_work wider_width more_lanes w command ≤ command_work width lanes w command
+  unfolding command_work
+  command_wider w command = deed_wider w (deed command)
 
   pub session_wider : (w : World) (cs : List Command) → session_work wider_width more_lanes w cs ≤ session_work width lanes w cs
   unfolding session_work

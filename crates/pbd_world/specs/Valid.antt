@@ -1,5 +1,5 @@
 -- Which parts are a scene.
-use Rattle.std.specs.Prelude.{◌≢◌, ℕ, ◌^◌, ◌<◌, ◌≤◌, nat_le, nat_lt, ◌==◌, ℤ, pos, ◌≤ℤ◌, ◌+ℤ◌, ◌-ℤ◌, ◌*ℤ◌, int_le, Bool, true, not, ◌&&◌}
+use Rattle.std.specs.Prelude.{◌≢◌, ℕ, ◌^◌, ◌<◌, ◌≤◌, nat_le, nat_lt, ◌==◌, ℤ, pos, ◌≤ℤ◌, ◌*ℤ◌, int_le, Bool, true, not, ◌&&◌}
 use Rattle.std.specs.Prelude.{◌||◌, IsTrue, List, [], ◌∷◌, length, filter, All}
 use Rattle.std.specs.List.{list_all, list_any, range_with_len}
 use Rattle.std.specs.Ordering.{int_eq}

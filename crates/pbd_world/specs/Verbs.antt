@@ -5,12 +5,12 @@ use Rattle.std.specs.Option.{option_map}
 use Rattle.pbd_num.specs.declared.Vec3.{Vec3}
 use Rattle.pbd_world.specs.declared.command.Command.{Command}
 use Rattle.pbd_world.specs.declared.command.Command.TheVariants.{Step, Frame, Pin, Unpin, Move, Cut, Gravity, Ledger, Bad}
-use Rattle.pbd_world.specs.declared.verb.Verb.{Verb}
-use Rattle.pbd_world.specs.declared.verb.Verb.TheVariants as verbs
-use Rattle.pbd_world.specs.declared.verb.OperandKind.{OperandKind}
-use Rattle.pbd_world.specs.declared.verb.OperandKind.TheVariants as kinds
-use Rattle.pbd_world.specs.declared.verb.Operands.{Operands}
-use Rattle.pbd_world.specs.declared.verb.Operands.TheVariants.{Nothing, Number, Vector, NumberAndVector}
+use Rattle.pbd_world.specs.declared.command.Verb.{Verb}
+use Rattle.pbd_world.specs.declared.command.Verb.TheVariants as verbs
+use Rattle.pbd_world.specs.declared.command.OperandKind.{OperandKind}
+use Rattle.pbd_world.specs.declared.command.OperandKind.TheVariants as kinds
+use Rattle.pbd_world.specs.declared.command.Operands.{Operands}
+use Rattle.pbd_world.specs.declared.command.Operands.TheVariants.{Nothing, Number, Vector, NumberAndVector}
 
 -- the word that begins its lines, the byte that begins its entries in a log, and what stands behind either
 pub record TableRow : Type 0 where

@@ -16,7 +16,9 @@ use Rattle.pbd_world.specs.Colours.{colour, of_colour}
 use Rattle.pbd_world.specs.Contacts.{contacts_of, link_pairs, live_flags}
 use Rattle.pbd_world.specs.Shapes.{shapes_of}
 use Rattle.pbd_world.specs.Step.{predict, step}
-use Rattle.pbd_world.specs.Meaning.{after, refusals, reply}
+use Rattle.pbd_world.specs.Meaning.{Deed, deed, refusals, after, reply}
+use Rattle.pbd_world.specs.Meaning.Edit.{OnParticle}
+use Rattle.pbd_world.specs.Meaning.Deed.{Steps, Edits}
 
 -- how many pieces of at most n items hold m items
 abbrev pub pieces_of : ℕ → ℕ → ℕ
@@ -117,13 +119,14 @@ work_over width lanes (suc n) w = step_work width lanes w (found_in w) + work_fr
 unfoldable pub steps_work : ℕ → ℕ → ℕ → World → ℕ
 steps_work width lanes n w = work_from (work_over width lanes n) (unless (refusals w (commands.Step n)) w)
 
--- a command: a particle that it holds, frees or moves is read and written, and other commands but steps reach none
+-- what is edited of a particle is read and written, and other edits and answers reach none
+abbrev pub deed_work : ℕ → ℕ → World → Deed → ℕ
+deed_work width lanes w (Steps n) = steps_work width lanes n w
+deed_work width lanes w (Edits (OnParticle i change lost)) = 2
+deed_work width lanes w deed = 0
+
 unfoldable pub command_work : ℕ → ℕ → World → Command → ℕ
-command_work width lanes w (commands.Step n) = steps_work width lanes n w
-command_work width lanes w (commands.Pin i) = 2
-command_work width lanes w (commands.Unpin i) = 2
-command_work width lanes w (commands.Move i to) = 2
-command_work width lanes w command = 0
+command_work width lanes w c = deed_work width lanes w (deed c)
 
 -- printing a reply: a frame reads each particle once, and so does the momentum of a ledger
 unfoldable pub reply_work : World → Reply → ℕ

@@ -14,10 +14,11 @@ mod scene;
 mod single;
 mod totals;
 mod valid;
-mod verb;
 
 pub use bond::{Bond, Correction, End, Shift};
-pub use command::{Command, FrameSums, Left, Phase, Refusal, Reply, Width};
+pub use command::{
+    Command, FrameSums, Left, OperandKind, Operands, Phase, Refusal, Reply, Verb, VerbRow, Width,
+};
 pub use laws::{
     colours_are_determined, colours_are_greedy, commands_are_their_parts,
     commands_keep_the_balance, commands_keep_worlds_sound, contacts_are_the_touching_pairs,
@@ -37,4 +38,3 @@ pub use parts::{Key, Kind, Link, Particle, Parts, Plane, ShapeLists, Sphere, Tra
 pub use room_list::{Full, RoomList};
 pub use scene::{PartsFault, Scene};
 pub use totals::{Class, Totals};
-pub use verb::{OperandKind, Operands, Verb, VerbRow};

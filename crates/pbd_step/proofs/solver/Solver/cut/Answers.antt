@@ -2,7 +2,8 @@ use Rattle.std.proofs.Common.{refl, ◌+◌, ap, sym, ◌∙◌, arith, subst, f
 use Rattle.pbd_step.specs.declared.state.State.{State}
 use Rattle.pbd_step.specs.States.{world_of, AreWeights}
 use Rattle.pbd_step.specs.Solving.{Solved}
-use Rattle.pbd_step.proofs.Keeping.{commanded, seen_obeyed, mean_cut, kept_commanded, none_laid, formed_fit}
+use Rattle.pbd_world.specs.declared.command.Command.TheVariants.{Cut}
+use Rattle.pbd_step.proofs.Keeping.{commanded, seen_obeyed, kept_commanded, none_laid, formed_fit}
 use Rattle.pbd_step.proofs.solver.Solver.cut.Goals as goal
 
 pub cut-requires : goal.cut-requires
@@ -19,13 +20,13 @@ cut-requires g c = (
 
 pub invariant_of-self : goal.invariant_of-self
 invariant_of-self g c =
-    kept_commanded c.self.invariant (commanded (mean_cut c.args.l) (c.cut.ensures.obeys c.self.inside.setting) c.self.invariant.sound)
+    kept_commanded c.self.invariant (commanded (Cut c.args.l) (c.cut.ensures.obeys c.self.inside.setting) c.self.invariant.sound)
     (subst (λ (s : State g.row.L). AreWeights s) (sym c.cut.ensures.same) c.self.invariant.weights) c.cut.ensures.links
     false none_laid
 
 pub returns-clause-commanded : goal.returns-clause-commanded
 returns-clause-commanded g c =
-    seen_obeyed (mean_cut c.args.l) (c.cut.ensures.obeys c.self.inside.setting) c.self.invariant.sound c.self.view_is refl
+    seen_obeyed (Cut c.args.l) (c.cut.ensures.obeys c.self.inside.setting) c.self.invariant.sound c.self.view_is refl
 
 pub returns-clause-copies : goal.returns-clause-copies
 returns-clause-copies g c =
