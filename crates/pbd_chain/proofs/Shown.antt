@@ -68,11 +68,11 @@ module _ {heads next : List (Option ℕ)} {back : List (Option Slot)} {chains : 
   linked_tells x s e = let k = h.linked x s e in linked-at chains x k.0 (omega (arith, k.1, h.count)) k.2
 
   pub free_tells : (x : ℕ) → is_linked chains x ≡ false → back_of back x ≡ None
-  free_tells x e = go (back_of back x) refl
+  free_tells x e = none_behind (back_of back x) refl
     where
-      go : (o : Option Slot) → back_of back x ≡ o → back_of back x ≡ None
-      go None k = k
-      go (Some s) k = absurd (false≢true (sym e ∙ linked_tells x s k))
+      none_behind : (o : Option Slot) → back_of back x ≡ o → back_of back x ≡ None
+      none_behind None k = k
+      none_behind (Some s) k = absurd (false≢true (sym e ∙ linked_tells x s k))
 
   pub item_below : (x : ℕ) → is_linked chains x ≡ true → x < length next
   item_below x i = let k = at-linked chains x i in h.items k.0 x (omega (arith, k.1, h.count)) k.2

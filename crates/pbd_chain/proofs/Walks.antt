@@ -37,12 +37,12 @@ any_step : (p : ℕ → Bool) (xs : List ℕ) (k x : ℕ) → slice_get xs k ≡
     → list_any p (take (suc k) xs) ≡ false
 any_step p [] k x e before here = absurd (let no : ⊥ = cc in no)
 any_step p (y ∷ ys) zero x e before here = let s : y ≡ x = cc in rw (s, here) refl
-any_step p (y ∷ ys) (suc k) x e before here = go (p y) before (λ h. any_step p ys k x e h here)
+any_step p (y ∷ ys) (suc k) x e before here = any_so_far (p y) before (λ h. any_step p ys k x e h here)
   where
-    go : (b : Bool) → (b || list_any p (take k ys)) ≡ false → (list_any p (take k ys) ≡ false → list_any p (take (suc k) ys) ≡ false)
+    any_so_far : (b : Bool) → (b || list_any p (take k ys)) ≡ false → (list_any p (take k ys) ≡ false → list_any p (take (suc k) ys) ≡ false)
         → (b || list_any p (take (suc k) ys)) ≡ false
-    go true h more = h
-    go false h more = more h
+    any_so_far true h more = h
+    any_so_far false h more = more h
 
 pub any_more : (p : ℕ → Bool) (xs : List ℕ) (k x : ℕ) → slice_get xs k ≡ Some x → list_any p (take k xs) ≡ false → p x ≡ false
     → list_any p (take (k + 1) xs) ≡ false
@@ -58,27 +58,27 @@ any_here p (y ∷ ys) x e here = elim (cases_eq y x) [
 
 pub any_found : (p : ℕ → Bool) (xs : List ℕ) → list_any p xs ≡ true → (x : ℕ) × (is_in x xs ≡ true) × (p x ≡ true)
 any_found p [] e = absurd (let no : ⊥ = cc in no)
-any_found p (y ∷ ys) e = go (p y) refl e (λ h. any_found p ys h)
+any_found p (y ∷ ys) e = found_here_or_behind (p y) refl e (λ h. any_found p ys h)
   where
-    go : (b : Bool) → p y ≡ b → (b || list_any p ys) ≡ true → (list_any p ys ≡ true → (x : ℕ) × (is_in x ys ≡ true) × (p x ≡ true))
+    found_here_or_behind : (b : Bool) → p y ≡ b → (b || list_any p ys) ≡ true → (list_any p ys ≡ true → (x : ℕ) × (is_in x ys ≡ true) × (p x ≡ true))
         → (x : ℕ) × ((eqb y x || is_in x ys) ≡ true) × (p x ≡ true)
-    go true h k more = (y, rw (eq-eqb y y refl) refl, h)
-    go false h k more = let r = more k in (r.0, or_right (eqb y r.0) (is_in r.0 ys) r.1, r.2)
+    found_here_or_behind true h k more = (y, rw (eq-eqb y y refl) refl, h)
+    found_here_or_behind false h k more = let r = more k in (r.0, or_right (eqb y r.0) (is_in r.0 ys) r.1, r.2)
 
 pub in_without : (x y : ℕ) (xs : List ℕ) → is_in x (without y xs) ≡ (not (eqb y x) && is_in x xs)
-in_without x y [] = go (eqb y x)
+in_without x y [] = false_either_way (eqb y x)
   where
-    go : (b : Bool) → false ≡ (not b && false)
-    go true = refl
-    go false = refl
+    false_either_way : (b : Bool) → false ≡ (not b && false)
+    false_either_way true = refl
+    false_either_way false = refl
 in_without x y (z ∷ zs) = elim (cases_eq z y) [
-  | inl e ↦ rw (e, eq-eqb y y refl) (in_without x y zs ∙ go (eqb y x) (is_in x zs))
+  | inl e ↦ rw (e, eq-eqb y y refl) (in_without x y zs ∙ not_or (eqb y x) (is_in x zs))
   | inr ne ↦ rw (ne_eqb z y ne) (rw (in_without x y zs) (more ne (cases_eq z x)))
 ]
   where
-    go : (b r : Bool) → (not b && r) ≡ (not b && (b || r))
-    go true r = refl
-    go false r = refl
+    not_or : (b r : Bool) → (not b && r) ≡ (not b && (b || r))
+    not_or true r = refl
+    not_or false r = refl
 
     other : (b r : Bool) → (false || (not b && r)) ≡ (not b && (false || r))
     other true r = refl

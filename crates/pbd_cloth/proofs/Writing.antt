@@ -78,11 +78,11 @@ abbrev pub passing : (ℕ → Bool) → ℕ → List ℕ
 passing test n = filter test (range_with_len 0 n)
 
 filter_one : (test : ℕ → Bool) (so_far : List ℕ) (n : ℕ) → so_far ++ filter test (n ∷ []) ≡ cond (test n) (so_far ++ n ∷ []) so_far
-filter_one test so_far n = by (test n)
+filter_one test so_far n = append_if (test n)
   where
-    by : (b : Bool) → so_far ++ cond b (n ∷ []) [] ≡ cond b (so_far ++ n ∷ []) so_far
-    by true = refl
-    by false = append-nil so_far
+    append_if : (b : Bool) → so_far ++ cond b (n ∷ []) [] ≡ cond b (so_far ++ n ∷ []) so_far
+    append_if true = refl
+    append_if false = append-nil so_far
 
 pub passing_next : (test : ℕ → Bool) (n : ℕ) → passing test (n + 1) ≡ cond (test n) (passing test n ++ n ∷ []) (passing test n)
 passing_next test n =
@@ -104,12 +104,12 @@ written_if : (b : Bool) (old so_far : List ℕ) (n : ℕ) → cond b
     (overwritten old so_far)
     ≡ overwritten old (cond b (so_far ++ n ∷ []) so_far)
 written_if false old so_far n = refl
-written_if true old so_far n = by (nat_lt (length so_far) (length old)) refl
+written_if true old so_far n = over_while_room (nat_lt (length so_far) (length old)) refl
   where
-    by : (c : Bool) → nat_lt (length so_far) (length old) ≡ c
+    over_while_room : (c : Bool) → nat_lt (length so_far) (length old) ≡ c
         → cond c (slice_set (overwritten old so_far) (length so_far) n) (overwritten old so_far) ≡ overwritten old (so_far ++ n ∷ [])
-    by true is = over_more old so_far n (ltb-true (length so_far) (length old) is)
-    by false is = over_full old so_far (n ∷ []) (ltb-false (length so_far) (length old) is)
+    over_while_room true is = over_more old so_far n (ltb-true (length so_far) (length old) is)
+    over_while_room false is = over_full old so_far (n ∷ []) (ltb-false (length so_far) (length old) is)
 
 count_if : (b : Bool) (so_far : List ℕ) (n : ℕ) → cond b (length so_far + 1) (length so_far) ≡ length (cond b (so_far ++ n ∷ []) so_far)
 count_if true so_far n = grind (arith, length-append)

@@ -1,5 +1,5 @@
 -- Batches: what they hold, and that they make the order.
-use Rattle.std.proofs.Common.{◌≡◌, ℕ, zero, suc, ◌+◌, ◌<◌, ◌&&◌, ◌||◌, Bool, true, false, cond, eqb, List, [], ◌∷◌, ◌++◌, get_or, length}
+use Rattle.std.proofs.Common.{◌≡◌, ℕ, zero, suc, ◌+◌, ◌<◌, ◌&&◌, Bool, true, false, cond, eqb, List, [], ◌∷◌, ◌++◌, get_or, length}
 use Rattle.std.proofs.Common.{refl, sym, ◌∙◌, arith, inl, inr}
 use Rattle.std.proofs.lemmas.Bool.{cases_lt, cases_Bool, eqb-true, eq-eqb, ne_eqb, cases_eq, and_parts, and_from}
 use Rattle.std.proofs.lemmas.List.FromFn.{length-range_with_len, get_or-range_with_len}
@@ -10,7 +10,7 @@ use Rattle.pbd_world.specs.Colours.{pair_at, live_at, share, colour, order}
 use Rattle.pbd_colour.specs.Pairs.{batch_of}
 use Rattle.pbd_colour.specs.Coloured.{by_colour}
 use Rattle.pbd_colour.specs.Batch.{AreApart, AreLive}
-use Rattle.pbd_world.proofs.GreedyLemmas.{colour-is_greedy}
+use Rattle.pbd_world.proofs.GreedyLemmas.{colour-is_greedy, or_swap}
 use Rattle.pbd_colour.proofs.Gathering.{by_colour_more, order_is}
 use Rattle.pbd_colour.proofs.Holding.{rising_at}
 use Rattle.pbd_world.proofs.Ranges.{range_increases}
@@ -19,15 +19,15 @@ use Rattle.pbd_world.proofs.Ranges.{range_increases}
 filter_at : (p : ℕ → Bool) (n : ℕ) (xs : List ℕ) → ((k : ℕ) → k < length xs → get_or xs k 0 < n) → (k : ℕ) → k < length (filter p xs)
     → (p (get_or (filter p xs) k 0) ≡ true) × (get_or (filter p xs) k 0 < n)
 filter_at p n [] h = λ k l. absurd (omega arith)
-filter_at p n (x ∷ xs) h = go (p x) refl (filter_at p n xs (λ k l. h (suc k) (omega arith)))
+filter_at p n (x ∷ xs) h = kept_at (p x) refl (filter_at p n xs (λ k l. h (suc k) (omega arith)))
   where
-    go : (b : Bool) → p x ≡ b → ((k : ℕ) → k < length (filter p xs)
+    kept_at : (b : Bool) → p x ≡ b → ((k : ℕ) → k < length (filter p xs)
         → (p (get_or (filter p xs) k 0) ≡ true) × (get_or (filter p xs) k 0 < n))
         → (k : ℕ) → k < length (cond b (x ∷ filter p xs) (filter p xs))
         → (p (get_or (cond b (x ∷ filter p xs) (filter p xs)) k 0) ≡ true) × (get_or (cond b (x ∷ filter p xs) (filter p xs)) k 0 < n)
-    go true e rest zero l = (e, h 0 (omega arith))
-    go true e rest (suc k) l = rest k (omega arith)
-    go false e rest k l = rest k l
+    kept_at true e rest zero l = (e, h 0 (omega arith))
+    kept_at true e rest (suc k) l = rest k (omega arith)
+    kept_at false e rest k l = rest k l
 
 range_below : (n k : ℕ) → k < length (range_with_len 0 n) → get_or (range_with_len 0 n) k 0 < n
 range_below n k l = let s = length-range_with_len 0 n in omega (arith, l, s, get_or-range_with_len 0 n k 0 (omega (arith, l, s)))
@@ -40,13 +40,7 @@ eqb_turn a b = elim (cases_eq a b) [
 
 pub share_turn : (a b : ℕ × ℕ) → share a b ≡ share b a
 share_turn a b = rw (eqb_turn a.0 b.0, eqb_turn a.1 b.0, eqb_turn a.0 b.1, eqb_turn a.1 b.1)
-    (go (eqb b.0 a.0) (eqb b.0 a.1) (eqb b.1 a.0) (eqb b.1 a.1))
-  where
-    go : (x y z w : Bool) → ((x || y) || (z || w)) ≡ ((x || z) || (y || w))
-    go true y z w = refl
-    go false true true w = refl
-    go false true false w = refl
-    go false false z w = refl
+    (or_swap (eqb b.0 a.0) (eqb b.0 a.1) (eqb b.1 a.0) (eqb b.1 a.1))
 
 module _ (pairs : List (ℕ × ℕ)) (live : List Bool) (c : ℕ) where
   in_batch : (k : ℕ) → k < length (batch_of pairs live c)

@@ -2,7 +2,7 @@
 use Rattle.std.proofs.Common.{◌≡◌, ◌≢◌, ℕ, zero, suc, ◌+◌, ◌-◌, ◌*◌, ◌/◌, ◌%◌, ◌<◌, ◌≤◌, ◌&&◌, ◌||◌, Bool, true, false, not, cond, eqb, ltb}
 use Rattle.std.proofs.Common.{List, [], ◌∷◌, get_or, set, map, length, take, drop, slice_range, refl, sym, ap, ◌∙◌, subst, arith, inl, inr, add-one, ◌⊎◌}
 use Rattle.std.proofs.Common.{Option, slice_get}
-use Rattle.std.proofs.lemmas.Bool.{cases_eq, cases_lt, eq-eqb, ne_eqb, and_parts, and_from, lt-ltb, false≢true, or_right, or_left}
+use Rattle.std.proofs.lemmas.Bool.{cases_eq, cases_lt, eq-eqb, ne_eqb, and_parts, and_from, lt-ltb, false≢true, or_right, or_left, or_cases}
 use Rattle.std.proofs.lemmas.Bool.Decides.{nat_tests}
 use Rattle.std.proofs.lemmas.List.{get_or-set_same, get_or-set_other, get_or_past, get_or-take, get_or-drop, take_all}
 use Rattle.std.specs.List.{list_any}
@@ -12,7 +12,8 @@ use Rattle.pbd_chain.proofs.Walks.{chain_linked, not_linked, in_linked, in_unlin
 use Rattle.pbd_world.specs.Colours.{pair_at, live_at, is_end, some_below, joins, joined}
 use Rattle.pbd_colour.specs.Pairs.{dropped}
 use Rattle.pbd_colour.specs.Held.{end_at, far_at, Holds}
-use Rattle.pbd_world.proofs.GreedyLemmas.{some_below-decides}
+use Rattle.pbd_world.proofs.GreedyLemmas.{some_below-decides, same_truth}
+use Rattle.std.proofs.Math.Bool.{and-false}
 
 pub even_half : (k : ℕ) → 2 * k / 2 ≡ k
 even_half k = omega arith
@@ -100,11 +101,11 @@ module _ {particles room : ℕ} (i : ℕ) {pairs : List (ℕ × ℕ)} {held : Li
       let differ : eqb (2 * i) (2 * i + 1) ≡ false = ne_eqb _ _ (λ s. absurd (omega arith)) in
       let old : is_in (2 * i + 1) (chain_at held.chains c) ≡ false = h.holds c (2 * i + 1) (omega (arith, h.count, len, l))
       ∙ item_odd test pairs i c ∙ rw out refl in
-      second_first first la e c (2 * i + 1) ∙ rw (differ, old) (go (eqb (pair_at pairs i).0 c)))
+      second_first first la e c (2 * i + 1) ∙ rw (differ, old) (none_here (eqb (pair_at pairs i).0 c)))
     where
-      go : (b : Bool) → ((b && false) || false) ≡ false
-      go true = refl
-      go false = refl
+      none_here : (b : Bool) → ((b && false) || false) ≡ false
+      none_here true = refl
+      none_here false = refl
 
   -- the test passes pair i from now on, and else what it has passed
   pub Holds-more : (next : ℕ → Bool) → next i ≡ true → ((k : ℕ) → k ≢ i → test k ≡ next k)
@@ -121,7 +122,7 @@ module _ {particles room : ℕ} (i : ℕ) {pairs : List (ℕ × ℕ)} {held : Li
             ∙ in_linked first.chains (pair_at pairs i).1 (2 * i + 1) (omega (arith, len, h.count, lb)) p x
             ∙ ap (λ (b : Bool). (eqb (pair_at pairs i).1 p && eqb (2 * i + 1) x) || b)
             (second_first first la e p x ∙ ap (λ (b : Bool). (eqb (pair_at pairs i).0 p && eqb (2 * i) x) || b) (h.holds p x l))
-            ∙ go p x (which i x);
+            ∙ end_tested p x (which i x);
       }
     where
       left : (a b r : Bool) → ((b && false) || ((a && true) || (false && r))) ≡ a
@@ -135,24 +136,24 @@ module _ {particles room : ℕ} (i : ℕ) {pairs : List (ℕ × ℕ)} {held : Li
       right true false r = refl
       right false false r = refl
 
-      rest : (a b r : Bool) → ((b && false) || ((a && false) || r)) ≡ r
-      rest true true r = refl
-      rest true false r = refl
-      rest false true r = refl
-      rest false false r = refl
+      others_stay : (a b r : Bool) → ((b && false) || ((a && false) || r)) ≡ r
+      others_stay true true r = refl
+      others_stay true false r = refl
+      others_stay false true r = refl
+      others_stay false false r = refl
 
-      go : (p x : ℕ) → Which i x → ((eqb (pair_at pairs i).1 p && eqb (2 * i + 1) x)
+      end_tested : (p x : ℕ) → Which i x → ((eqb (pair_at pairs i).1 p && eqb (2 * i + 1) x)
           || ((eqb (pair_at pairs i).0 p && eqb (2 * i) x) || (test (x / 2) && eqb (end_at pairs x) p)))
           ≡ (next (x / 2) && eqb (end_at pairs x) p)
-      go p x (Even s) = let differ : eqb (2 * i + 1) (2 * i) ≡ false = ne_eqb _ _ (λ t. absurd (omega arith)) in
+      end_tested p x (Even s) = let differ : eqb (2 * i + 1) (2 * i) ≡ false = ne_eqb _ _ (λ t. absurd (omega arith)) in
           rw (s, differ, eq-eqb (2 * i) (2 * i) refl, end_even pairs i, even_half i, out, in_now)
           (left (eqb (pair_at pairs i).0 p) (eqb (pair_at pairs i).1 p) (eqb (pair_at pairs i).0 p))
-      go p x (Odd s) = let differ : eqb (2 * i) (2 * i + 1) ≡ false = ne_eqb _ _ (λ t. absurd (omega arith)) in
+      end_tested p x (Odd s) = let differ : eqb (2 * i) (2 * i + 1) ≡ false = ne_eqb _ _ (λ t. absurd (omega arith)) in
           rw (s, differ, eq-eqb (2 * i + 1) (2 * i + 1) refl, end_odd pairs i, odd_half i, out, in_now)
           (right (eqb (pair_at pairs i).0 p) (eqb (pair_at pairs i).1 p) (eqb (pair_at pairs i).1 p))
-      go p x (Other na nb nk) =
+      end_tested p x (Other na nb nk) =
           rw (ne_eqb (2 * i + 1) x (λ t. nb (sym t)), ne_eqb (2 * i) x (λ t. na (sym t)), others (x / 2) nk)
-          (rest (eqb (pair_at pairs i).0 p) (eqb (pair_at pairs i).1 p) (next (x / 2) && eqb (end_at pairs x) p))
+          (others_stay (eqb (pair_at pairs i).0 p) (eqb (pair_at pairs i).1 p) (next (x / 2) && eqb (end_at pairs x) p))
 
 -- ---- pairs are taken out
 module _ {particles room : ℕ} (i : ℕ) {pairs : List (ℕ × ℕ)} (live : List Bool) {held : Linked}
@@ -183,18 +184,14 @@ module _ {particles room : ℕ} (i : ℕ) {pairs : List (ℕ × ℕ)} (live : Li
     holds = λ p x l. ap (λ (q : Linked). is_in x (chain_at q.chains p)) f ∙ in_unlinked first.chains (2 * i + 1) p x
         ∙ ap (λ (b : Bool). not (eqb (2 * i + 1) x) && b) (ap (λ (q : Linked). is_in x (chain_at q.chains p)) e
         ∙ in_unlinked held.chains (2 * i) p x ∙ ap (λ (b : Bool). not (eqb (2 * i) x) && b) (h.holds p x l))
-        ∙ go p x (which i x);
+        ∙ end_left p x (which i x);
   }
     where
-      none : (a : Bool) → (a && false) ≡ false
-      none true = refl
-      none false = refl
-
-      go : (p x : ℕ) → Which i x → (not (eqb (2 * i + 1) x) && (not (eqb (2 * i) x) && (live_at live (x / 2) && eqb (end_at pairs x) p)))
+      end_left : (p x : ℕ) → Which i x → (not (eqb (2 * i + 1) x) && (not (eqb (2 * i) x) && (live_at live (x / 2) && eqb (end_at pairs x) p)))
           ≡ (live_at (set live i false) (x / 2) && eqb (end_at pairs x) p)
-      go p x (Even s) = rw (s, eq-eqb (2 * i) (2 * i) refl, even_half i, get_or-set_same live i false false li) (none _)
-      go p x (Odd s) = rw (s, eq-eqb (2 * i + 1) (2 * i + 1) refl, odd_half i, get_or-set_same live i false false li) refl
-      go p x (Other na nb nk) = rw (
+      end_left p x (Even s) = rw (s, eq-eqb (2 * i) (2 * i) refl, even_half i, get_or-set_same live i false false li) (and-false _)
+      end_left p x (Odd s) = rw (s, eq-eqb (2 * i + 1) (2 * i + 1) refl, odd_half i, get_or-set_same live i false false li) refl
+      end_left p x (Other na nb nk) = rw (
         ne_eqb (2 * i + 1) x (λ t. nb (sym t)),
         ne_eqb (2 * i) x (λ t. na (sym t)),
         get_or-set_other live i (x / 2) false false nk,
@@ -208,15 +205,6 @@ module _ {particles room : ℕ} {pairs : List (ℕ × ℕ)} (live : List Bool) {
     | inl l ↦ l
     | inr l ↦ absurd (false≢true (sym (get_or_past live (x / 2) false (omega (arith, len, l))) ∙ b.0))
   ]
-
-  both : (a b : Bool) → (a ≡ true → b ≡ true) → (b ≡ true → a ≡ true) → a ≡ b
-  both true b f g = sym (f refl)
-  both false true f g = g refl
-  both false false f g = refl
-
-  or_cases : (a b : Bool) → (a || b) ≡ true → (a ≡ true) ⊎ (b ≡ true)
-  or_cases true b e = inl refl
-  or_cases false b e = inr e
 
   seen : (j x : ℕ) (b : Bool) → eqb (x % 2) 0 ≡ b → eqb (end_at pairs x) i ≡ true → eqb (far_at pairs x) j ≡ true
       → joins (pair_at pairs (x / 2)) i j ≡ true
@@ -247,16 +235,7 @@ module _ {particles room : ℕ} {pairs : List (ℕ × ℕ)} (live : List Bool) {
       let b = and_parts (live_at live w.0) (joins (pair_at pairs w.0) i j) w.2 in back_at j w.0 b.0 b.1
 
   pub leads-joined : (j : ℕ) → list_any (λ x. eqb (far_at pairs x) j) (chain_at held.chains i) ≡ joined pairs live i j
-  leads-joined j = both _ _ (there j) (back j)
-
-or_split : (a b : Bool) → (a || b) ≡ true → (a ≡ true) ⊎ (b ≡ true)
-or_split true b e = inl refl
-or_split false b e = inr e
-
-same_truth : (a b : Bool) → (a ≡ true → b ≡ true) → (b ≡ true → a ≡ true) → a ≡ b
-same_truth true b f g = sym (f refl)
-same_truth false true f g = g refl
-same_truth false false f g = refl
+  leads-joined j = same_truth _ _ (there j) (back j)
 
 -- ---- the pairs of a particle, for the sweep that mends colours
 module _ {particles room : ℕ} {pairs : List (ℕ × ℕ)} (live : List Bool) {held : Linked} (h : Holds (live_at live) particles room pairs held)
@@ -265,12 +244,12 @@ module _ {particles room : ℕ} {pairs : List (ℕ × ℕ)} (live : List Bool) {
   touched k = (live_at live k && is_end (pair_at pairs k) p) && test k
 
   end_touches : (x : ℕ) → eqb (end_at pairs x) p ≡ true → is_end (pair_at pairs (x / 2)) p ≡ true
-  end_touches x e = go (eqb (x % 2) 0) refl e
+  end_touches x e = end_by_parity (eqb (x % 2) 0) refl e
     where
-      go : (b : Bool) → eqb (x % 2) 0 ≡ b → eqb (cond b (pair_at pairs (x / 2)).0 (pair_at pairs (x / 2)).1) p ≡ true
+      end_by_parity : (b : Bool) → eqb (x % 2) 0 ≡ b → eqb (cond b (pair_at pairs (x / 2)).0 (pair_at pairs (x / 2)).1) p ≡ true
           → is_end (pair_at pairs (x / 2)) p ≡ true
-      go true q f = or_left (eqb (pair_at pairs (x / 2)).0 p) (eqb (pair_at pairs (x / 2)).1 p) f
-      go false q f = or_right (eqb (pair_at pairs (x / 2)).0 p) (eqb (pair_at pairs (x / 2)).1 p) f
+      end_by_parity true q f = or_left (eqb (pair_at pairs (x / 2)).0 p) (eqb (pair_at pairs (x / 2)).1 p) f
+      end_by_parity false q f = or_right (eqb (pair_at pairs (x / 2)).0 p) (eqb (pair_at pairs (x / 2)).1 p) f
 
   met : list_any (λ x. test (x / 2)) (chain_at held.chains p) ≡ true → some_below touched (length pairs) ≡ true
   unfolding touched
@@ -289,7 +268,7 @@ module _ {particles room : ℕ} {pairs : List (ℕ × ℕ)} (live : List Bool) {
       let w = (some_below-decides touched (length pairs)).0 e in
       let b = and_parts (live_at live w.0 && is_end (pair_at pairs w.0) p) (test w.0) w.2 in
       let d = and_parts (live_at live w.0) (is_end (pair_at pairs w.0) p) b.0 in
-      at w.0 d.0 b.1 (or_split (eqb (pair_at pairs w.0).0 p) (eqb (pair_at pairs w.0).1 p) d.1)
+      at w.0 d.0 b.1 (or_cases (eqb (pair_at pairs w.0).0 p) (eqb (pair_at pairs w.0).1 p) d.1)
     where
       at : (k : ℕ) → live_at live k ≡ true → test k ≡ true → ((eqb (pair_at pairs k).0 p ≡ true) ⊎ (eqb (pair_at pairs k).1 p ≡ true))
           → list_any (λ x. test (x / 2)) (chain_at held.chains p) ≡ true

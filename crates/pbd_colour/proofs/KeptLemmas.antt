@@ -63,12 +63,12 @@ IsColoured-opened {starts = starts} p l c n s = rw (p, l, c, n)
 
 module _ {pairs : List (ℕ × ℕ)} {live : List Bool} {colours numbers starts : List ℕ}
     (h : IsColoured pairs live colours numbers starts) where
-  whole : numbers ≡ by_colour live (colour pairs live) (length pairs) 64
-  whole = h.ordered ∙ sym (order_is pairs live)
+  all_listed : numbers ≡ by_colour live (colour pairs live) (length pairs) 64
+  all_listed = h.ordered ∙ sym (order_is pairs live)
 
   -- no more numbers than pairs
   pub numbers_few : length numbers ≤ length pairs
-  numbers_few = omega (arith, ap length whole, length-by_colour_le live (colour pairs live) (length pairs) 64)
+  numbers_few = omega (arith, ap length all_listed, length-by_colour_le live (colour pairs live) (length pairs) 64)
 
   pub starts_ordered : (c : ℕ) → c < 64 → get_or starts c 0 ≤ get_or starts (c + 1) 0
   starts_ordered c l = omega (
@@ -82,12 +82,12 @@ module _ {pairs : List (ℕ × ℕ)} {live : List Bool} {colours numbers starts 
   starts_within c l = omega (
     arith,
     h.started c l,
-    ap length whole,
+    ap length all_listed,
     begins_within live (colour pairs live) (length pairs) c 64 (omega arith),
   )
 
   pub batch_is : (c : ℕ) → c < 64 → slice_range numbers (get_or starts c 0) (get_or starts (c + 1) 0) ≡ batch_of pairs live c
-  batch_is c l = ap (λ (xs : List ℕ). slice_range xs (get_or starts c 0) (get_or starts (c + 1) 0)) whole
+  batch_is c l = ap (λ (xs : List ℕ). slice_range xs (get_or starts c 0) (get_or starts (c + 1) 0)) all_listed
       ∙ ap (λ (s : ℕ). slice_range (by_colour live (colour pairs live) (length pairs) 64) s (get_or starts (c + 1) 0))
       (h.started c (omega arith))
       ∙ ap (λ (e : ℕ). slice_range (by_colour live (colour pairs live) (length pairs) 64)

@@ -12,6 +12,7 @@ use Rattle.pbd_colour.specs.Mended.{is_later, meets}
 use Rattle.pbd_colour.specs.Marked.{AreAsMany, AreBlocked, AreUnmarked}
 use Rattle.pbd_colour.specs.Swept.{IsSwept}
 use Rattle.pbd_colour.proofs.Sweeping.{IsSwept-more_unmarked}
+use Rattle.std.proofs.Math.Bool.{or-false}
 
 module _ {marks blocks : List Bool} (h : AreBlocked marks blocks) where
   pub AreBlocked-more : (k : ℕ) (b : Bool) → k < length marks
@@ -97,11 +98,7 @@ meets_later pairs chains i old new told k le = told k
       later_none i k le (chain_at chains (pair_at pairs i).0),
       later_none i k le (chain_at chains (pair_at pairs i).1),
     ) refl)
-    ∙ last (live_at old k)
-  where
-    last : (b : Bool) → (b || false) ≡ b
-    last true = refl
-    last false = refl
+    ∙ or-false (live_at old k)
 
 -- ---- the sweep
 module _ (pairs : List (ℕ × ℕ)) (live : List Bool) (cs : List ℕ) where

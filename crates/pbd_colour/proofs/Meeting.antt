@@ -16,15 +16,12 @@ use Rattle.pbd_colour.proofs.Batches.{share_turn}
 use Rattle.pbd_colour.proofs.Holding.{chain-tells, held_within}
 use Rattle.pbd_colour.proofs.Mending.{chains_tell}
 use Rattle.pbd_colour.proofs.Sweeping.{IsSwept-none, IsSwept-more_same, IsSwept-more_changed}
+use Rattle.std.proofs.Math.Bool.{and-false}
 
 -- an item of a chain is of one of the pairs
 pub items_within : {pairs : List (ℕ × ℕ)} {live : List Bool} {chains : Linked} → AreHeld pairs live chains → (n : ℕ) → length pairs ≤ n
     → (p x : ℕ) → p < length chains.chains → is_in x (chain_at chains.chains p) ≡ true → x / 2 < n
 items_within {live = live} h n l p x lp i = omega (arith, held_within live h.held h.flags p lp x i, l)
-
-none : (a : Bool) → (a && false) ≡ false
-none true = refl
-none false = refl
 
 module _ {particles room : ℕ} {pairs : List (ℕ × ℕ)} (live : List Bool) {held : Linked} (h : Holds (live_at live) particles room pairs held)
     (len : length live ≡ length pairs) (range : InRange particles pairs) where
@@ -59,7 +56,7 @@ module _ {particles room : ℕ} {pairs : List (ℕ × ℕ)} (live : List Bool) {
   IsSwept-again cs marked marks p c swept lp lc e told =
       let r = range p lp in
       IsSwept-more_changed pairs live swept c marks lc (e ∙ chains_tell live h len cs p (omega (arith, lp)) r.0 r.1)
-      (λ i l m a u. let n = or_parts _ _ (sym (told i) ∙ u) in (n.0, rw (unmet p i l m a n.1) (none (live_at live p))))
+      (λ i l m a u. let n = or_parts _ _ (sym (told i) ∙ u) in (n.0, rw (unmet p i l m a n.1) (and-false (live_at live p))))
 
   -- pair p has the colour that the chains tell
   pub IsSwept-kept : (cs : List ℕ) (marked : List Bool) (p : ℕ) → IsSwept pairs live cs marked p → p < length pairs

@@ -1,8 +1,7 @@
 -- What the chains of a pair's two ends tell of the colours that its earlier live neighbours hold.
 use Rattle.std.proofs.Common.{◌≡◌, ℕ, zero, suc, ◌+◌, ◌/◌, ◌<◌, ◌≤◌, ◌&&◌, ◌||◌, Bool, true, false, eqb, ltb, List, get_or, set, length}
 use Rattle.std.proofs.Common.{refl, sym, ap, ◌∙◌, arith, inl, inr, [], ◌∷◌, take, Option, Some, slice_get, add-one}
-use Rattle.std.proofs.lemmas.Bool.{cases_eq, lt-ltb, eq-eqb, ne_eqb}
-use Rattle.std.proofs.lemmas.Bool.Decides.{nat_tests}
+use Rattle.std.proofs.lemmas.Bool.{cases_eq, lt-ltb, eq-eqb, ne_eqb, le-ltb}
 use Rattle.std.proofs.lemmas.List.{take_all, get_or-set_same, get_or-set_other}
 use Rattle.std.proofs.lemmas.List.Folds.{list_any-append}
 use Rattle.std.specs.List.{list_any}
@@ -13,12 +12,10 @@ use Rattle.pbd_world.specs.Colours.{pair_at, live_at, is_end, some_below, least_
 use Rattle.pbd_colour.specs.Held.{Holds}
 use Rattle.pbd_colour.specs.Mended.{holds_before, is_later, least_unheld}
 use Rattle.pbd_world.proofs.GreedyLemmas.{least_free-agree, some_below-agree, some_below-or}
-use Rattle.pbd_colour.proofs.Painting.{spread}
+use Rattle.pbd_colour.proofs.Painting.{spread, none_or}
 use Rattle.pbd_colour.proofs.Holding.{chain-tells}
 use Rattle.pbd_colour.specs.Swept.{holds}
-
-not_under : (n i : ℕ) → i ≤ n → ltb n i ≡ false
-not_under n i l = grind (arith, nat_tests)
+use Rattle.std.proofs.Math.Bool.{or-false}
 
 -- only the numbers below i count
 some_below-cut : (u v : ℕ → Bool) (i n : ℕ) → i ≤ n → some_below (λ k. u k && (ltb k i && v k)) n ≡ some_below (λ k. u k && v k) i
@@ -27,13 +24,9 @@ some_below-cut u v (suc i) zero l = absurd (omega arith)
 some_below-cut u v i (suc n) l = elim (cases_eq i (suc n)) [
   | inl e ↦ some_below-agree (λ k. u k && (ltb k i && v k)) (λ k. u k && v k) (suc n) (λ k lk. rw (lt-ltb k i (omega (arith, e, lk))) refl)
       ∙ ap (some_below (λ k. u k && v k)) (sym e)
-  | inr ne ↦ rw (not_under n i (omega (arith, l, ne))) (skip (u n) (some_below (λ k. u k && (ltb k i && v k)) n)
+  | inr ne ↦ rw (le-ltb n i (omega (arith, l, ne))) (none_or (u n) (some_below (λ k. u k && (ltb k i && v k)) n)
       ∙ some_below-cut u v i n (omega (arith, l, ne)))
 ]
-  where
-    skip : (b r : Bool) → ((b && false) || r) ≡ r
-    skip true r = refl
-    skip false r = refl
 
 -- a walk that gathers the colours
 pub record IsUsing (cs : List ℕ) (i : ℕ) (chain : List ℕ) (at : Option ℕ) (k now : ℕ) : Type 0 where
@@ -43,11 +36,7 @@ pub record IsUsing (cs : List ℕ) (i : ℕ) (chain : List ℕ) (at : Option ℕ
 
 any_one : (p : ℕ → Bool) (xs : List ℕ) (k x : ℕ) → slice_get xs k ≡ Some x → list_any p (take (k + 1) xs) ≡ (list_any p (take k xs) || p x)
 any_one p xs k x e = ap (λ (n : ℕ). list_any p (take n xs)) (add-one k) ∙ ap (list_any p) (take_get xs k x e)
-    ∙ list_any-append p (take k xs) (x ∷ []) ∙ ap (λ (b : Bool). list_any p (take k xs) || b) (last (p x))
-  where
-    last : (b : Bool) → (b || false) ≡ b
-    last true = refl
-    last false = refl
+    ∙ list_any-append p (take k xs) (x ∷ []) ∙ ap (λ (b : Bool). list_any p (take k xs) || b) (or-false (p x))
 
 or_join : (a b c : Bool) → ((a || b) || c) ≡ (a || (b || c))
 or_join true b c = refl

@@ -7,6 +7,10 @@ use Rattle.pbd_colour.specs.Used.{has, AreSmall}
 use Rattle.pbd_world.specs.Colours.{pair_at, live_at, is_end, some_below, least_free, colour}
 use Rattle.pbd_world.proofs.GreedyLemmas.{colour_is, least_free-agree, some_below-or}
 
+pub none_or : (a b : Bool) → ((a && false) || b) ≡ b
+none_or true b = refl
+none_or false b = refl
+
 -- a live pair before n is_end the particle and has colour d
 abbrev pub marks : List (ℕ × ℕ) → List Bool → ℕ → ℕ → ℕ → Bool
 marks pairs live n p d = some_below (λ j. (live_at live j && is_end (pair_at pairs j) p) && eqb (colour pairs live j) d) n
@@ -58,13 +62,9 @@ module _ {pairs : List (ℕ × ℕ)} {live : List Bool} {used colours : List ℕ
   IsPainted-more_serial c ln e serial = record {
     painted = painted_more c ln e;
     sets = λ p d lp ld. h.sets p d lp ld ∙ sym (rw (add-one, ← e, ne_eqb c d (λ s. absurd (omega arith)))
-        (no_more (live_at live n && is_end (pair_at pairs n) p) _));
+        (none_or (live_at live n && is_end (pair_at pairs n) p) _));
     small = h.small;
   }
-    where
-      no_more : (a b : Bool) → ((a && false) || b) ≡ b
-      no_more true b = refl
-      no_more false b = refl
 
   -- pair n is live, and its colour went into the sets of both ends
   pub IsPainted-more_marked : (c : ℕ) (first second : List ℕ) → n < length colours → c ≡ colour pairs live n → live_at live n ≡ true

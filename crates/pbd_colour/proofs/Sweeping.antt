@@ -12,11 +12,11 @@ module _ (pairs : List (ℕ × ℕ)) (live : List Bool) where
   pub next_local : (cs : List ℕ) (p : ℕ) → ((i : ℕ) → i < p → live_at live i ≡ true → get_or cs i 0 ≡ colour pairs live i)
       → least_free (λ d. some_below (holds pairs live cs p d) p) ≡ colour pairs live p
   next_local cs p done = least_free-agree _ _ (λ d _. some_below-agree _ _ p
-      (λ j l. go (live_at live j) (share (pair_at pairs j) (pair_at pairs p)) d (done j l))) ∙ sym (colour_is pairs live p)
+      (λ j l. alike_if (live_at live j) (share (pair_at pairs j) (pair_at pairs p)) d (done j l))) ∙ sym (colour_is pairs live p)
     where
-      go : {x y : ℕ} (a s : Bool) (d : ℕ) → (a ≡ true → x ≡ y) → ((a && s) && eqb x d) ≡ ((a && s) && eqb y d)
-      go true s d e = ap (λ (n : ℕ). s && eqb n d) (e refl)
-      go false s d e = refl
+      alike_if : {x y : ℕ} (a s : Bool) (d : ℕ) → (a ≡ true → x ≡ y) → ((a && s) && eqb x d) ≡ ((a && s) && eqb y d)
+      alike_if true s d e = ap (λ (n : ℕ). s && eqb n d) (e refl)
+      alike_if false s d e = refl
 
   module _ {cs : List ℕ} {marked : List Bool} {p : ℕ} (h : IsSwept pairs live cs marked p) where
     more_done : (live_at live p ≡ true → get_or cs p 0 ≡ colour pairs live p) → (i : ℕ) → i < p + 1 → live_at live i ≡ true

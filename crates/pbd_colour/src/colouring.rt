@@ -10,7 +10,7 @@ ghost use Rattle.pbd_colour.specs.Batch.{AreApart, AreLive};
 use crate::gather::{gather, open_order};
 use crate::held::{Held, are_same, hold_as, hold_instead, leads, take_out};
 use crate::lists::{copy_all, copy_over, open_filled};
-use crate::marks::Marks;
+use crate::marks::MarkedNumbers;
 use crate::mend::mend;
 use crate::paint::paint;
 use crate::toward::{may_lead, tell_all};
@@ -31,7 +31,7 @@ pub struct Colouring {
     room: u32,
     pairs: RoomList<(u32, u32)>,
     live: RoomList<bool>,
-    marks: Marks,
+    marks: MarkedNumbers,
     colours: RoomList<u8>,
     used: RoomList<u64>,
     toward: RoomList<u64>,
@@ -85,7 +85,7 @@ impl Colouring {
         let pairs = RoomList::open(alloc, room)?;
         let live = RoomList::open(alloc, room)?;
         let colours = RoomList::open(alloc, room)?;
-        let marks = Marks::open(alloc, room)?;
+        let marks = MarkedNumbers::open(alloc, room)?;
         let (used, toward) = open_sets(alloc, particles)?;
         let (order, starts) = open_order(alloc, room)?;
         Ok(Colouring {

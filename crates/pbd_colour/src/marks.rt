@@ -10,12 +10,12 @@ use std::marker::Model;
 
 /// Marks on numbers, seen as a flag for each. The block of a marked number is marked too.
 #[derive(Drop)]
-pub(crate) struct Marks {
+pub(crate) struct MarkedNumbers {
     numbers: RoomList<bool>,
     blocks: RoomList<bool>,
 }
 
-impl Model for Marks {
+impl Model for MarkedNumbers {
     ghost use Rattle.std.specs.Prelude.{◌≡◌, ◌+◌, ◌/◌, Bool};
     ghost use Rattle.pbd_world.specs.Room.{Roomed};
     ghost use Rattle.pbd_colour.specs.Marked.{AreBlocked};
@@ -118,14 +118,14 @@ fn clear(blocks: &mut [bool])
     }
 }
 
-impl Marks {
+impl MarkedNumbers {
     // Room for the marks of so many numbers. There are no numbers yet.
-    pub(crate) fn open(alloc: Global, room: u32) -> Result<Marks, AllocError>
+    pub(crate) fn open(alloc: Global, room: u32) -> Result<MarkedNumbers, AllocError>
         ensures { IfOk result (λ marks. marks ≡ record { entries = []; room = room }) }
     {
         let numbers = RoomList::open(alloc, room)?;
         let blocks = open_filled(alloc, room / 256 + 1, false, 1)?;
-        Ok(Marks { numbers, blocks })
+        Ok(MarkedNumbers { numbers, blocks })
     }
 
     // Takes so many numbers, of which none is marked.

@@ -7,12 +7,12 @@ ghost use Rattle.pbd_colour.specs.Mended.{meets};
 ghost use Rattle.pbd_colour.specs.Swept.{ArePainted, IsSwept, WerePainted};
 
 use crate::held::Held;
-use crate::marks::Marks;
+use crate::marks::MarkedNumbers;
 use crate::neighbours::{free_colour, mark_neighbours};
 
 // Marks the live pairs that share a particle with an earlier pair of the numbers.
 #[tactic(auto, using(crate::proofs::Marking::as_many_then))]
-fn mark_all(held: Held<'_>, numbers: &[u32], marks: &mut Marks)
+fn mark_all(held: Held<'_>, numbers: &[u32], marks: &mut MarkedNumbers)
     requires held { AreHeld held.pairs.now held.live.now held.chains.now }
     requires in_range { (k : ℕ) → k < length numbers.now → slice_index numbers.now k < length held.pairs.now }
     requires marks { length held.pairs.now ≤ length marks.old.entries }
@@ -27,7 +27,7 @@ fn mark_all(held: Held<'_>, numbers: &[u32], marks: &mut Marks)
 }
 
 // Gives pair i its colour where it is live, and marks the later pairs that share a particle with it where that changed.
-fn look_again(held: Held<'_>, colours: &mut [u8], marks: &mut Marks, i: u32)
+fn look_again(held: Held<'_>, colours: &mut [u8], marks: &mut MarkedNumbers, i: u32)
     requires i { i < length held.pairs.now }
     requires held { AreHeld held.pairs.now held.live.now held.chains.now }
     requires colours { length colours.old ≡ length held.pairs.now }
@@ -50,7 +50,7 @@ fn look_again(held: Held<'_>, colours: &mut [u8], marks: &mut Marks, i: u32)
 }
 
 // Goes over the marked pairs, in the order of their numbers, and takes their marks away.
-fn sweep(held: Held<'_>, colours: &mut [u8], marks: &mut Marks)
+fn sweep(held: Held<'_>, colours: &mut [u8], marks: &mut MarkedNumbers)
     requires held { AreHeld held.pairs.now held.live.now held.chains.now }
     requires colours { length colours.old ≡ length held.pairs.now }
     requires marks { length marks.old.entries ≡ length held.pairs.now }
@@ -70,7 +70,7 @@ fn sweep(held: Held<'_>, colours: &mut [u8], marks: &mut Marks)
 }
 
 // Mends the colours of the live pairs after those of the numbers were dropped.
-pub(crate) fn mend(held: Held<'_>, numbers: &[u32], colours: &mut [u8], marks: &mut Marks)
+pub(crate) fn mend(held: Held<'_>, numbers: &[u32], colours: &mut [u8], marks: &mut MarkedNumbers)
     requires held { AreHeld held.pairs.now held.live.now held.chains.now }
     requires in_range { (k : ℕ) → k < length numbers.now → slice_index numbers.now k < length held.pairs.now }
     requires colours { length colours.old ≡ length held.pairs.now }

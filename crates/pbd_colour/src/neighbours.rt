@@ -9,7 +9,7 @@ ghost use Rattle.pbd_colour.specs.Held.{AreHeld};
 ghost use Rattle.pbd_world.specs.Colours.{live_at};
 
 use crate::held::Held;
-use crate::marks::Marks;
+use crate::marks::MarkedNumbers;
 use pbd_chain::Chains;
 
 // Puts a colour below 63 into a set where it is to go there.
@@ -45,7 +45,7 @@ pub(crate) fn used_by(colours: &[u8], chains: &Chains, p: u32, i: u32) -> u64
 }
 
 // Marks the pairs after i in the chain of a particle.
-pub(crate) fn mark_later(chains: &Chains, p: u32, i: u32, marks: &mut Marks)
+pub(crate) fn mark_later(chains: &Chains, p: u32, i: u32, marks: &mut MarkedNumbers)
     requires chain { p < length chains.now.chains }
     requires pairs { (x : ℕ) → IsTrue (is_in x (chain_at chains.now.chains p)) → x / 2 < length marks.old.entries }
     ensures marked { (k : ℕ) → live_at marks.new.entries k
@@ -76,7 +76,7 @@ pub(crate) fn free_colour(held: Held<'_>, colours: &[u8], i: u32) -> u8
 }
 
 // Marks the live pairs after i that share a particle with it.
-pub(crate) fn mark_neighbours(held: Held<'_>, i: u32, marks: &mut Marks)
+pub(crate) fn mark_neighbours(held: Held<'_>, i: u32, marks: &mut MarkedNumbers)
     requires i { i < length held.pairs.now }
     requires held { AreHeld held.pairs.now held.live.now held.chains.now }
     requires marks { length held.pairs.now ≤ length marks.old.entries }

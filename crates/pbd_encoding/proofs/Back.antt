@@ -14,11 +14,13 @@ use Rattle.pbd_encoding.specs.Encoding.{sum_bytes, header_of, head_bytes, at_byt
 use Rattle.pbd_encoding.specs.Encoding.{first_totals_bytes, last_totals_bytes, state_bytes}
 use Rattle.pbd_encoding.specs.Described.{number_from, vector_from, sum_from, contacts_at, told_by}
 use Rattle.pbd_encoding.specs.Laws.{TotalsFit, NumbersFit, told_on}
-use Rattle.pbd_encoding.proofs.Lengths.{two_long, number_long, vector_long, sum_long, flag_long, header_long}
+use Rattle.pbd_encoding.proofs.Lengths.{two_long, sum_long, flag_long, header_long}
 use Rattle.pbd_encoding.proofs.Standing.{Stands, first_stands, second_stands, behind_front, stands_as, each_stands, byte_stands}
 use Rattle.pbd_encoding.proofs.Reading.{number_back, vector_back, sum_back, flag_back}
 use Rattle.pbd_encoding.proofs.Sections.{Sections, sections}
-use Rattle.pbd_encoding.proofs.Scenes.{as_many_particles, as_many_links, same_weight, same_link}
+use Rattle.pbd_encoding.proofs.Scenes.{same_weight, same_link}
+use Rattle.pbd_log.proofs.Fields.{length-number, length-vector}
+use Rattle.pbd_world.proofs.SameShape.{scene_particles, scene_links}
 
 -- ---- steps and gravity
 
@@ -36,7 +38,7 @@ head_back scene bytes v e fit h =
     record {
       steps = number_back 8 v.steps bytes 96 (behind_front bytes header steps 96 long front) (omega (arith, fit.steps));
       gravity = vector_back v.gravity bytes 104
-          (behind_front bytes (header ++ steps) (vector_bytes v.gravity) 104 (two_long header steps 96 8 long (number_long 8 v.steps)) h)
+          (behind_front bytes (header ++ steps) (vector_bytes v.gravity) 104 (two_long header steps 96 8 long (length-number 8 v.steps)) h)
           fit.gravity;
     }
 
@@ -56,13 +58,13 @@ first_totals_back bytes c contacts t few fit h =
     let a = number_bytes 4 contacts in let g = sum_bytes t.gravity in let d = sum_bytes t.damping in let l = sum_bytes t.link in
     let agd = first_stands bytes c (a ++ g ++ d) l h in
     let ag = first_stands bytes c (a ++ g) d agd in
-    let long2 : length (a ++ g) ≡ 52 = two_long a g 4 48 (number_long 4 contacts) (sum_long t.gravity) in
+    let long2 : length (a ++ g) ≡ 52 = two_long a g 4 48 (length-number 4 contacts) (sum_long t.gravity) in
     let long3 : length (a ++ g ++ d) ≡ 100 = two_long (a ++ g) d 52 48 long2 (sum_long t.damping) in
     let damping = stands_as bytes (c + 52) (c + 4 + 48) d d (omega arith) refl (second_stands bytes c (a ++ g) d 52 long2 agd) in
     let link = stands_as bytes (c + 100) (c + 4 + 96) l l (omega arith) refl (second_stands bytes c (a ++ g ++ d) l 100 long3 h) in
     record {
       contacts_back = number_back 4 contacts bytes c (first_stands bytes c a g ag) (omega (arith, few));
-      gravity = sum_back t.gravity bytes (c + 4) (second_stands bytes c a g 4 (number_long 4 contacts) ag) fit.gravity;
+      gravity = sum_back t.gravity bytes (c + 4) (second_stands bytes c a g 4 (length-number 4 contacts) ag) fit.gravity;
       damping = sum_back t.damping bytes (c + 4 + 48) damping fit.damping;
       link = sum_back t.link bytes (c + 4 + 96) link fit.link;
     }
@@ -94,7 +96,7 @@ last_totals_back bytes c t fit h =
 at_back : (scene bytes : List ℕ) (v : World) (i : ℕ) → NumbersFit v → Sections bytes scene v → i < length v.particles
     → vector_from bytes (128 + 24 * i) ≡ (particle_at v.particles i).at
 at_back scene bytes v i fit s lt =
-    let h = each_stands {A = Particle} bytes at_bytes 24 128 v.particles i no_particle (λ p. vector_long p.at) lt s.at in
+    let h = each_stands {A = Particle} bytes at_bytes 24 128 v.particles i no_particle (λ p. length-vector p.at) lt s.at in
     let text = vector_bytes (particle_at v.particles i).at in
     vector_back (particle_at v.particles i).at bytes (128 + 24 * i)
     (stands_as bytes (128 + i * 24) (128 + 24 * i) text text (omega arith) refl h) (fit.at i lt)
@@ -103,7 +105,7 @@ before_back : (scene bytes : List ℕ) (v : World) (i : ℕ) → NumbersFit v �
     → vector_from bytes (128 + 24 * length v.particles + 24 * i) ≡ (particle_at v.particles i).before
 before_back scene bytes v i fit s lt =
     let start = 128 + 24 * length v.particles in
-    let h = each_stands {A = Particle} bytes before_bytes 24 start v.particles i no_particle (λ p. vector_long p.before) lt s.before in
+    let h = each_stands {A = Particle} bytes before_bytes 24 start v.particles i no_particle (λ p. length-vector p.before) lt s.before in
     let text = vector_bytes (particle_at v.particles i).before in
     let there = stands_as bytes (start + i * 24) (start + 24 * i) text text (omega arith) refl h in
     vector_back (particle_at v.particles i).before bytes (start + 24 * i) there (fit.before i lt)
@@ -125,8 +127,8 @@ told_back scene w v e same fit =
     let bytes = state_bytes scene v in
     let s : Sections bytes scene v = sections scene v e in
     let d = told_by bytes (length w.particles) (length w.links) in
-    let en : length w.particles ≡ length v.particles = as_many_particles w v same in
-    let em : length w.links ≡ length v.links = as_many_links w v same in
+    let en : length w.particles ≡ length v.particles = scene_particles w v same in
+    let em : length w.links ≡ length v.links = scene_links w v same in
     let c = contacts_at (length w.particles) (length w.links) in
     let ec : contacts_at (length v.particles) (length v.links) ≡ c = omega (arith, en, em) in
     let head = head_back scene bytes v e fit s.head in

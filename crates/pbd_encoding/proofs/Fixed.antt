@@ -39,15 +39,10 @@ head_tells v w fv fw =
     let thickness = signed_tells v.thickness w.thickness f.thickness g.thickness in
     let friction = signed_tells v.friction w.friction f.friction g.friction in
     let opening = sum_tells v.opening w.opening f.opening g.opening in
-    tells_so (both_tell (both_tell (both_tell (both_tell (both_tell limit passes) damping) thickness) friction) opening) (λ e. record {
-      settings = λ i. record {
-        limit = e.0.0.0.0.0 i;
-        passes = e.0.0.0.0.1 i;
-        damping = e.0.0.0.1 i;
-        thickness = e.0.0.1 i;
-        friction = e.0.1 i;
-      };
-      opening = e.1;
+    tells_so (both_tell (both_tell (both_tell (both_tell (both_tell limit passes) damping) thickness) friction) opening)
+    (λ (((((limit, passes), damping), thickness), friction), opening). record {
+      settings = λ i. record { limit = limit i; passes = passes i; damping = damping i; thickness = thickness i; friction = friction i };
+      opening = opening;
     })
 
 weight_tells : (p q : Particle) → WeightFits p → WeightFits q → Tells (weight_bytes p) (weight_bytes q) (blank p ≡ blank q)
@@ -78,13 +73,13 @@ link_tells l m f g =
     let k = number_tells 2 l.k m.k f.k g.k in
     let tear = signed_tells l.tear m.tear f.tear g.tear in
     let kind = kind_tells l.kind m.kind in
-    tells_so (both_tell (both_tell (both_tell (both_tell (both_tell a b) rest) k) tear) kind) (λ e i. record {
-      a = e.0.0.0.0.0 i;
-      b = e.0.0.0.0.1 i;
-      rest = e.0.0.0.1 i;
-      k = e.0.0.1 i;
-      tear = e.0.1 i;
-      kind = e.1 i;
+    tells_so (both_tell (both_tell (both_tell (both_tell (both_tell a b) rest) k) tear) kind) (λ (((((a, b), rest), k), tear), kind) i. record {
+      a = a i;
+      b = b i;
+      rest = rest i;
+      k = k i;
+      tear = tear i;
+      kind = kind i;
       live = false;
     })
 
@@ -110,22 +105,26 @@ scene_tells v w f g h =
     let links = list_tells {A = Link} link_bytes (λ l. unlive l) LinkFits v.links w.links link_tells f.links g.links in
     let tracks = items_tell track_bytes TrackFits v.tracks w.tracks track_tells f.tracks g.tracks in
     let shapes = shapes_tell v.shapes w.shapes f.shapes g.shapes in
-    let e = told_last (both_tell (both_tell (both_tell head weights) links) tracks) shapes h in
+    let all = told_last (both_tell (both_tell (both_tell head weights) links) tracks) shapes h in
+    let before_shapes = all.0 in
+    let before_tracks = before_shapes.0 in
+    let before_links = before_tracks.0 in
+    let same = before_links.0 in
     λ i. record {
-      limit = (e.0.0.0.0.settings i).limit;
+      limit = (same.settings i).limit;
       steps = 0;
-      particles = e.0.0.0.1 i;
-      links = e.0.0.1 i;
-      tracks = e.0.1 i;
-      shapes = e.1 i;
+      particles = before_links.1 i;
+      links = before_tracks.1 i;
+      tracks = before_shapes.1 i;
+      shapes = all.1 i;
       gravity = zero_vector;
-      passes = (e.0.0.0.0.settings i).passes;
-      damping = (e.0.0.0.0.settings i).damping;
-      thickness = (e.0.0.0.0.settings i).thickness;
-      friction = (e.0.0.0.0.settings i).friction;
+      passes = (same.settings i).passes;
+      damping = (same.settings i).damping;
+      thickness = (same.settings i).thickness;
+      friction = (same.settings i).friction;
       contacts = 0;
       totals = zero_totals;
-      opening = e.0.0.0.0.opening i;
+      opening = same.opening i;
     }
 
 pub scenes_differ : (v w : World) → IsSound v → IsSound w → scene_bytes v ≡ scene_bytes w → AreOfOneScene v w

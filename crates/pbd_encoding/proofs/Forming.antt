@@ -19,8 +19,8 @@ use Rattle.pbd_encoding.proofs.Lengths.{header_long}
 use Rattle.pbd_encoding.proofs.Standing.{Stands, first_stands}
 use Rattle.pbd_encoding.proofs.Reading.{flag_small}
 use Rattle.pbd_encoding.proofs.Sections.{Sections, sections, state_long}
-use Rattle.pbd_encoding.proofs.Scenes.{as_many_particles, as_many_links}
 use Rattle.pbd_encoding.proofs.Back.{held_there, live_there, told_back}
+use Rattle.pbd_world.proofs.SameShape.{scene_particles, scene_links}
 
 none_from : (n : ℕ) (test : ℕ → ℕ → Bool) (xs : List ℕ) → ((i : ℕ) → i < length xs → test (n + i) (slice_index xs i) ≡ false)
     → first_where n test xs ≡ None
@@ -94,8 +94,8 @@ own_native scene v k e lt =
 -- the form of a state is the same for all worlds of a scene
 same_form : (scene bytes : List ℕ) (w v : World) → AreOfOneScene w v → form_on scene w bytes ≡ form_on scene v bytes
 same_form scene bytes w v same =
-    let en = as_many_particles w v same in
-    let em = as_many_links w v same in
+    let en = scene_particles w v same in
+    let em = scene_links w v same in
     λ i. form_checked (header_bytes scene (en i) (em i) (ap (λ (u : World). u.opening) same i)) (en i) (em i) bytes
 
 pub form_is : (header bytes : List ℕ) (n m : ℕ)

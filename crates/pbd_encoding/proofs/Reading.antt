@@ -14,11 +14,11 @@ use Rattle.pbd_log.specs.Entries.{number_bytes, signed_bytes, vector_bytes, Vect
 use Rattle.pbd_log.specs.Laws.{IsBytes}
 use Rattle.pbd_log.specs.Reading.{number_at}
 use Rattle.pbd_log.proofs.Numbers.{IsBytes-drop}
-use Rattle.pbd_log.proofs.Fields.{number_field}
+use Rattle.pbd_log.proofs.Fields.{number_field, length-number}
 use Rattle.pbd_encoding.specs.Described.{number_from, vector_from, sum_from}
 use Rattle.pbd_encoding.specs.Encoding.{wide_bytes, sum_bytes, flag_bytes}
 use Rattle.pbd_encoding.proofs.Axes.{Hold, eight, sixteen, axis_bytes, axes_bytes, axis_from}
-use Rattle.pbd_encoding.proofs.Lengths.{two_long, number_long}
+use Rattle.pbd_encoding.proofs.Lengths.{two_long}
 use Rattle.pbd_encoding.proofs.Standing.{Stands, both_stand, first_stands, second_stands}
 
 -- ---- numbers
@@ -35,7 +35,7 @@ number_stands n bytes at fits long =
     let rest = drop at bytes in
     let read = is_read n rest (omega (arith, long, length-drop at bytes)) in
     let t = ((number_field n).takes rest (big_number n rest) (drop n rest) (IsBytes-drop at bytes fits) read).0 in
-    let ends : at + n ≡ at + length text = omega (arith, number_long n (number_from n bytes at)) in
+    let ends : at + n ≡ at + length text = omega (arith, length-number n (number_from n bytes at)) in
     t.parts ∙ ap (λ (more : List ℕ). text ++ more) (drop-drop n at bytes ∙ ap (λ (m : ℕ). drop m bytes) ends)
 
 number_small : (n : ℕ) (bytes : List ℕ) (at : ℕ) → IsBytes bytes → number_from n bytes at < 256 ^ n
@@ -61,7 +61,7 @@ axis_back {w} {n} hold z bytes at h fits =
 two_axes_long : (w : Width) (n : ℕ) (x y : ℤ) → length (axis_bytes w n x ++ axis_bytes w n y) ≡ 2 * n
 two_axes_long w n x y = omega (
   arith,
-  two_long (axis_bytes w n x) (axis_bytes w n y) n n (number_long n (cast_unsigned w x)) (number_long n (cast_unsigned w y)),
+  two_long (axis_bytes w n x) (axis_bytes w n y) n n (length-number n (cast_unsigned w x)) (length-number n (cast_unsigned w y)),
 )
 
 axes_stand : {w : Width} {n : ℕ} → Hold w n → (bytes : List ℕ) (at : ℕ) → IsBytes bytes → at + 3 * n ≤ length bytes
@@ -70,7 +70,7 @@ axes_stand {w} {n} hold bytes at fits long =
     let x = axis_from w n bytes at in
     let y = axis_from w n bytes (at + n) in
     both_stand bytes at (axis_bytes w n x ++ axis_bytes w n y) _ (2 * n) (two_axes_long w n x y)
-    (both_stand bytes at (axis_bytes w n x) (axis_bytes w n y) n (number_long n (cast_unsigned w x))
+    (both_stand bytes at (axis_bytes w n x) (axis_bytes w n y) n (length-number n (cast_unsigned w x))
     (axis_stands hold bytes at fits (omega (arith, long)))
     (axis_stands hold bytes (at + n) fits (omega (arith, long))))
     (axis_stands hold bytes (at + 2 * n) fits (omega (arith, long)))
@@ -82,7 +82,7 @@ axes_back {w} {n} hold x y z bytes at h fx fy fz =
     let a = axis_bytes w n x in let b = axis_bytes w n y in let c = axis_bytes w n z in
     let both = first_stands bytes at (a ++ b) c h in (
       axis_back hold x bytes at (first_stands bytes at a b both) fx,
-      axis_back hold y bytes (at + n) (second_stands bytes at a b n (number_long n (cast_unsigned w x)) both) fy,
+      axis_back hold y bytes (at + n) (second_stands bytes at a b n (length-number n (cast_unsigned w x)) both) fy,
       axis_back hold z bytes (at + 2 * n) (second_stands bytes at (a ++ b) c (2 * n) (two_axes_long w n x y) h) fz,
     )
 

@@ -6,18 +6,7 @@ use Rattle.pbd_world.specs.declared.parts.Link.{Link}
 use Rattle.pbd_world.specs.Bonds.{link_at, no_link}
 use Rattle.pbd_world.specs.Particles.{particle_at, no_particle}
 use Rattle.pbd_world.specs.World.{World, AreOfOneScene}
-use Rattle.pbd_world.proofs.KeepingOn.{length-mapped}
-use Rattle.pbd_world.proofs.SameShape.{blank, unlive}
-
-pub as_many_particles : (w v : World) → AreOfOneScene w v → length w.particles ≡ length v.particles
-as_many_particles w v same =
-    sym (length-mapped {A = Particle} {B = Particle} (λ p. blank p) w.particles) ∙ ap (λ (u : World). length u.particles) same
-    ∙ length-mapped {A = Particle} {B = Particle} (λ p. blank p) v.particles
-
-pub as_many_links : (w v : World) → AreOfOneScene w v → length w.links ≡ length v.links
-as_many_links w v same =
-    sym (length-mapped {A = Link} {B = Link} (λ l. unlive l) w.links) ∙ ap (λ (u : World). length u.links) same
-    ∙ length-mapped {A = Link} {B = Link} (λ l. unlive l) v.links
+use Rattle.pbd_world.proofs.SameShape.{blank, unlive, scene_particles, scene_links}
 
 blank_at : (ps : List Particle) (i : ℕ) → i < length ps
     → get_or (map {A = Particle} {B = Particle} (λ p. blank p) ps) i (blank no_particle) ≡ blank (particle_at ps i)
@@ -30,12 +19,12 @@ unlive_at ls i lt = get_or-map (λ (l : Link). unlive l) ls i no_link (unlive no
 pub same_weight : (w v : World) (i : ℕ) → AreOfOneScene w v → i < length w.particles
     → (particle_at v.particles i).weight ≡ (particle_at w.particles i).weight
 same_weight w v i same lt =
-    sym (ap (λ (p : Particle). p.weight) (blank_at v.particles i (omega (arith, lt, as_many_particles w v same))))
+    sym (ap (λ (p : Particle). p.weight) (blank_at v.particles i (omega (arith, lt, scene_particles w v same))))
     ∙ sym (ap (λ (u : World). (get_or u.particles i (blank no_particle)).weight) same)
     ∙ ap (λ (p : Particle). p.weight) (blank_at w.particles i lt)
 
 pub same_link : (w v : World) (l : ℕ) → AreOfOneScene w v → l < length w.links → unlive (link_at v.links l) ≡ unlive (link_at w.links l)
 same_link w v l same lt =
-    sym (unlive_at v.links l (omega (arith, lt, as_many_links w v same)))
+    sym (unlive_at v.links l (omega (arith, lt, scene_links w v same)))
     ∙ sym (ap (λ (u : World). get_or u.links l (unlive no_link)) same)
     ∙ unlive_at w.links l lt

@@ -7,8 +7,9 @@ use Rattle.pbd_world.specs.World.{World}
 use Rattle.pbd_encoding.specs.Described.{contacts_at}
 use Rattle.pbd_encoding.specs.Encoding.{head_bytes, at_bytes, before_bytes, held_bytes, live_bytes, first_totals_bytes, last_totals_bytes}
 use Rattle.pbd_encoding.specs.Encoding.{state_bytes, state_size}
-use Rattle.pbd_encoding.proofs.Lengths.{two_long, vector_long, flag_long, head_long, first_totals_long, last_totals_long, longer_by_each}
+use Rattle.pbd_encoding.proofs.Lengths.{two_long, flag_long, head_long, first_totals_long, last_totals_long, longer_by_each}
 use Rattle.pbd_encoding.proofs.Standing.{Stands, first_stands, behind_front, both_front, whole_stands, stands_whole}
+use Rattle.pbd_log.proofs.Fields.{length-vector}
 
 -- ---- a state up to the end of each part
 
@@ -34,12 +35,12 @@ state_parts scene w = refl
 to_at_long : (scene : List ℕ) (w : World) → length scene ≡ 32 → length (to_at scene w) ≡ 128 + 24 * length w.particles
 to_at_long scene w e = omega (
   arith,
-  longer_by_each {A = Particle} (head_bytes scene w) at_bytes 128 24 w.particles (head_long scene w e) (λ p. vector_long p.at),
+  longer_by_each {A = Particle} (head_bytes scene w) at_bytes 128 24 w.particles (head_long scene w e) (λ p. length-vector p.at),
 )
 
 to_before_long : (scene : List ℕ) (w : World) → length scene ≡ 32 → length (to_before scene w) ≡ 128 + 48 * length w.particles
 to_before_long scene w e =
-    let longer = longer_by_each {A = Particle} (to_at scene w) before_bytes _ 24 w.particles (to_at_long scene w e) (λ p. vector_long p.before) in
+    let longer = longer_by_each {A = Particle} (to_at scene w) before_bytes _ 24 w.particles (to_at_long scene w e) (λ p. length-vector p.before) in
     omega (arith, longer)
 
 to_held_long : (scene : List ℕ) (w : World) → length scene ≡ 32 → length (to_held scene w) ≡ 128 + 49 * length w.particles

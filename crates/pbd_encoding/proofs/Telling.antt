@@ -2,7 +2,7 @@
 use Rattle.std.proofs.Common.{◌≡◌, refl, sym, ap, ◌∙◌, ℕ, ◌+◌, ◌*◌, ◌<◌, ◌≤◌, ◌==◌, Bool, true, false, not, List, ◌++◌, length, take, drop}
 use Rattle.std.proofs.Common.{min, arith, Option, Some, None, Ok, Err, if◌then◌else◌}
 use Rattle.std.specs.Prelude.{nat_lt, slice_index}
-use Rattle.std.proofs.lemmas.Bool.{lt-ltb, le-ltb, le-leb, eqb-true, ltb-false}
+use Rattle.std.proofs.lemmas.Bool.{lt-ltb, le-ltb, le-leb, eqb-true, ltb-false, not-false}
 use Rattle.std.proofs.lemmas.List.{ext_get_or, get_or-take, take_all, length-take, take-append-drop}
 use Rattle.pbd_world.specs.declared.parts.Particle.{Particle}
 use Rattle.pbd_world.specs.declared.parts.Link.{Link}
@@ -20,10 +20,11 @@ use Rattle.pbd_encoding.specs.Encoding.{flag_bytes, first_totals_bytes, last_tot
 use Rattle.pbd_encoding.specs.Described.{number_from, vector_from, sum_from, contacts_at, told_by}
 use Rattle.pbd_encoding.specs.Form.{Formed, fault_at, is_foreign, form_of, form_checked}
 use Rattle.pbd_encoding.specs.Laws.{form_on, told_on}
-use Rattle.pbd_encoding.proofs.Lengths.{two_long, number_long, vector_long, sum_long, flag_long, header_long}
+use Rattle.pbd_encoding.proofs.Lengths.{two_long, sum_long, flag_long, header_long}
 use Rattle.pbd_encoding.proofs.Standing.{Stands, both_stand, both_front, stands_as, all_stand}
 use Rattle.pbd_encoding.proofs.Reading.{number_stands, vector_stands, sum_stands, flag_stands}
 use Rattle.pbd_encoding.proofs.Sections.{from_sections}
+use Rattle.pbd_log.proofs.Fields.{length-number, length-vector}
 
 -- ---- the form of bytes
 
@@ -62,11 +63,7 @@ flag_there header n m bytes k form low high =
     flag_stands bytes k within (ltb-false 1 (slice_index bytes k) (sym is ∙ form.each k within))
 
 same_byte : (a b : ℕ) → not (a == b) ≡ false → a ≡ b
-same_byte a b h = eqb-true a b (by (a == b) h)
-  where
-    by : (t : Bool) → not t ≡ false → t ≡ true
-    by true h = refl
-    by false h = cc
+same_byte a b h = eqb-true a b (not-false (a == b) h)
 
 header_stands : (header : List ℕ) (n m : ℕ) (bytes : List ℕ) → length header ≡ 96 → HasForm header n m bytes → Stands bytes 0 header
 header_stands header n m bytes e form =
@@ -111,7 +108,7 @@ head_stands scene bytes w e fits form =
     let long : length header ≡ 96 = header_long scene n m w.opening e in
     let first = both_front bytes header steps 96 long (header_stands header n m bytes long form)
     (number_stands 8 bytes 96 fits (omega (arith, form.long))) in
-    let longer = two_long header steps 96 8 long (number_long 8 _) in
+    let longer = two_long header steps 96 8 long (length-number 8 _) in
     let all = both_front bytes (header ++ steps) gravity 104 longer first (vector_stands bytes 104 fits (omega (arith, form.long))) in
     stands_as bytes 0 0 (header ++ steps ++ gravity) _ refl (ap (λ (t : List ℕ). t ++ steps ++ gravity) (sym same)) all
 
@@ -127,14 +124,14 @@ first_totals_stand bytes w fits long =
     let a = number_bytes 4 (number_from 4 bytes c) in
     let g = sum_bytes (sum_from bytes (c + 4)) in
     let d = sum_bytes (sum_from bytes (c + 4 + 48)) in
-    let ag : length (a ++ g) ≡ 52 = two_long a g 4 48 (number_long 4 _) (sum_long _) in
+    let ag : length (a ++ g) ≡ 52 = two_long a g 4 48 (length-number 4 _) (sum_long _) in
     let agd : length (a ++ g ++ d) ≡ 100 = two_long (a ++ g) d 52 48 ag (sum_long _) in
     let contacts = number_stands 4 bytes c fits (omega (arith, long)) in
     let gravity = sum_there bytes (c + 4) (c + 4) refl fits (omega (arith, long)) in
     let damping = sum_there bytes (c + 52) (c + 4 + 48) (omega arith) fits (omega (arith, long)) in
     let link = sum_there bytes (c + 100) (c + 4 + 96) (omega arith) fits (omega (arith, long)) in
     both_stand bytes c (a ++ g ++ d) _ 100 agd
-    (both_stand bytes c (a ++ g) d 52 ag (both_stand bytes c a g 4 (number_long 4 _) contacts gravity) damping) link
+    (both_stand bytes c (a ++ g) d 52 ag (both_stand bytes c a g 4 (length-number 4 _) contacts gravity) damping) link
 
 last_totals_stand : (bytes : List ℕ) (w : World) → IsBytes bytes → length bytes ≡ state_size (length w.particles) (length w.links)
     → Stands bytes (contacts_at (length w.particles) (length w.links) + 148) (last_totals_bytes (told_on w bytes).totals)
@@ -162,13 +159,13 @@ formed_state scene bytes w e fits form =
     let en : length v.particles ≡ n = told_particles bytes w in
     let em : length v.links ≡ m = told_links bytes w in
     let ec : contacts_at n m ≡ contacts_at (length v.particles) (length v.links) = omega (arith, en, em) in
-    let at = all_stand {A = Particle} bytes at_bytes 24 128 v.particles no_particle (λ p. vector_long p.at) (λ i lt.
+    let at = all_stand {A = Particle} bytes at_bytes 24 128 v.particles no_particle (λ p. length-vector p.at) (λ i lt.
     let within : i < n = omega (arith, lt, en) in
     stands_as bytes (128 + 24 * i) (128 + i * 24) (vector_bytes (vector_from bytes (128 + 24 * i))) _ (omega arith)
     (ap (λ (p : Particle). vector_bytes p.at) (sym (particle_seen bytes w i within)))
     (vector_stands bytes (128 + 24 * i) fits (omega (arith, within, form.long)))) in
     let before = all_stand {A = Particle} bytes before_bytes 24 (128 + 24 * length v.particles) v.particles no_particle
-    (λ p. vector_long p.before) (λ i lt.
+    (λ p. length-vector p.before) (λ i lt.
     let within : i < n = omega (arith, lt, en) in
     let s = 128 + 24 * n + 24 * i in
     stands_as bytes s (128 + 24 * length v.particles + i * 24) (vector_bytes (vector_from bytes s)) _ (omega (arith, en))

@@ -13,7 +13,7 @@ use Rattle.pbd_log.specs.Entries.{number_bytes, signed_bytes, vector_bytes, Vect
 use Rattle.pbd_encoding.specs.Encoding.{wide_bytes, sum_bytes}
 use Rattle.pbd_encoding.specs.Scene.{listed}
 use Rattle.pbd_encoding.proofs.Axes.{Hold, eight, sixteen, axis_bytes}
-use Rattle.pbd_encoding.proofs.Lengths.{number_long}
+use Rattle.pbd_log.proofs.Fields.{length-number}
 
 -- where two texts go on as one, P holds, and so what follows is the same
 pub record Tells (a b : List ℕ) (P : Type 0) : Type 0 where
@@ -49,8 +49,8 @@ unfolding number_bytes
 number_tells n x y hx hy = record {
   reads = λ r s h. (
     sym (big_number-reads_back n x r hx) ∙ ap (big_number n) h ∙ big_number-reads_back n y s hy,
-    sym (drop_at (number_bytes n x) r n (number_long n x)) ∙ ap (λ (t : List ℕ). drop n t) h
-        ∙ drop_at (number_bytes n y) s n (number_long n y),
+    sym (drop_at (number_bytes n x) r n (length-number n x)) ∙ ap (λ (t : List ℕ). drop n t) h
+        ∙ drop_at (number_bytes n y) s n (length-number n y),
   );
 }
 

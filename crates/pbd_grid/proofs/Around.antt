@@ -23,35 +23,35 @@ abbrev pub map_pair : {X Y : Type 0} → X → List Y → List (X × Y)
 map_pair x [] = []
 map_pair x (y ∷ ys) = (x, y) ∷ map_pair x ys
 
+pub none_if : (b : Bool) → zero ≡ cond b zero zero
+none_if true = refl
+none_if false = refl
+
 passing-map_pair : {X Y : Type 0} (p : X → Bool) (q : Y → Bool) (x : X) (ys : List Y)
     → passing (λ (z : X × Y). p z.0 && q z.1) (map_pair x ys) ≡ cond (p x) (passing q ys) 0
-passing-map_pair {X = X} {Y = Y} p q x [] = go (p x)
+passing-map_pair {X = X} {Y = Y} p q x [] = none_if (p x)
+passing-map_pair {X = X} {Y = Y} p q x (y ∷ ys) = both_pass (p x) (q y) (passing-map_pair p q x ys)
   where
-    go : (b : Bool) → zero ≡ cond b zero zero
-    go true = refl
-    go false = refl
-passing-map_pair {X = X} {Y = Y} p q x (y ∷ ys) = go (p x) (q y) (passing-map_pair p q x ys)
-  where
-    go : (b c : Bool) → passing (λ (z : X × Y). p z.0 && q z.1) (map_pair x ys) ≡ cond b (passing q ys) 0
+    both_pass : (b c : Bool) → passing (λ (z : X × Y). p z.0 && q z.1) (map_pair x ys) ≡ cond b (passing q ys) 0
         → cond (b && c) 1 0 + passing (λ (z : X × Y). p z.0 && q z.1) (map_pair x ys) ≡ cond b (cond c 1 0 + passing q ys) 0
-    go true true r = omega (arith, r)
-    go true false r = omega (arith, r)
-    go false true r = omega (arith, r)
-    go false false r = omega (arith, r)
+    both_pass true true r = omega (arith, r)
+    both_pass true false r = omega (arith, r)
+    both_pass false true r = omega (arith, r)
+    both_pass false false r = omega (arith, r)
 
 -- a test of pairs part by part passes as many as the product
 pub passing-product : {X Y : Type 0} (p : X → Bool) (q : Y → Bool) (xs : List X) (ys : List Y)
     → passing (λ (z : X × Y). p z.0 && q z.1) (flat_map (λ x. map_pair x ys) xs) ≡ passing p xs * passing q ys
 passing-product {X = X} {Y = Y} p q [] ys = omega arith
 passing-product {X = X} {Y = Y} p q (x ∷ xs) ys = passing-append (λ z. p z.0 && q z.1) (map_pair x ys) (flat_map (λ x. map_pair x ys) xs)
-    ∙ go (p x) (passing-map_pair p q x ys) (passing-product p q xs ys)
+    ∙ product_more (p x) (passing-map_pair p q x ys) (passing-product p q xs ys)
   where
-    go : (b : Bool) → passing (λ (z : X × Y). p z.0 && q z.1) (map_pair x ys) ≡ cond b (passing q ys) 0
+    product_more : (b : Bool) → passing (λ (z : X × Y). p z.0 && q z.1) (map_pair x ys) ≡ cond b (passing q ys) 0
         → passing (λ (z : X × Y). p z.0 && q z.1) (flat_map (λ x. map_pair x ys) xs) ≡ passing p xs * passing q ys
         → passing (λ (z : X × Y). p z.0 && q z.1) (map_pair x ys) + passing (λ (z : X × Y). p z.0 && q z.1)
         (flat_map (λ x. map_pair x ys) xs) ≡ (cond b 1 0 + passing p xs) * passing q ys
-    go true r s = omega (arith, r, s)
-    go false r s = omega (arith, r, s)
+    product_more true r s = omega (arith, r, s)
+    product_more false r s = omega (arith, r, s)
 
 -- the eight cells
 abbrev pub around : ℕ → ℕ → ℕ → List ((ℕ × ℕ) × ℕ)

@@ -13,8 +13,9 @@ use Rattle.pbd_grid.specs.Near.{AllInside, is_near}
 use Rattle.pbd_world.specs.Room.{Roomed}
 use Rattle.pbd_grid.specs.declared.lookup.GridCell.{GridCell}
 use Rattle.pbd_grid.specs.Blocks.{AreLaid, IsFalling, count, cube_of, cube_at, cell_at, slot_of}
-use Rattle.pbd_grid.proofs.Cells.{count-filter, root_below}
+use Rattle.pbd_grid.proofs.Cells.{count-filter}
 use Rattle.pbd_grid.proofs.Counting.{AreBehind, AreBehind-none, AreBehind-more}
+use Rattle.pbd_num.proofs.RoundingLemmas.{below_by_squares}
 
 -- ---- the filling of the chains
 count_none : (q : ℕ) (xs : List ℕ) → count q xs ≡ 0 → is_in q xs ≡ false
@@ -153,7 +154,7 @@ are_laid side places n old now start cubes i low high few inside some h is e = r
 
 -- ---- near particles are in cells next to each other
 part_lt : (d t a b : ℕ) → d * d + a + b < t * t → d < t
-part_lt d t a b l = root_below d t (omega (arith, l))
+part_lt d t a b l = below_by_squares d t (omega (arith, l))
 
 pub lt_of : (a b : ℕ) → ltb a b ≡ true → a < b
 lt_of a b e = grind (arith, nat_tests)
@@ -179,13 +180,13 @@ module _ (t : ℕ) (a b : Vec3) (e : is_near (pos t) a b ≡ true) where
 -- ---- no more numbers than there are
 count_rest : (n : ℕ) (xs : List ℕ) → length xs ≡ count n xs + length (filter (λ x. not (eqb x n)) xs)
 count_rest n [] = refl
-count_rest n (x ∷ xs) = go (eqb x n) (count_rest n xs)
+count_rest n (x ∷ xs) = rest_counted (eqb x n) (count_rest n xs)
   where
-    go : (b : Bool) → length xs ≡ count n xs + length (filter (λ x. not (eqb x n)) xs)
+    rest_counted : (b : Bool) → length xs ≡ count n xs + length (filter (λ x. not (eqb x n)) xs)
         → suc (length xs) ≡ cond b 1 0 + count n xs + length (cond (not b) (x ∷ filter (λ x. not (eqb x n)) xs)
         (filter (λ x. not (eqb x n)) xs))
-    go true r = omega (arith, r)
-    go false r = omega (arith, r)
+    rest_counted true r = omega (arith, r)
+    rest_counted false r = omega (arith, r)
 
 no_numbers : (xs : List ℕ) → ((q : ℕ) → count q xs ≡ 0) → length xs ≡ 0
 no_numbers [] h = refl

@@ -1,15 +1,15 @@
 -- A grid of cells: what its proof needs, over plain lists of numbers.
 use Rattle.std.proofs.Common.{◌≡◌, ◌≢◌, ℕ, zero, suc, ◌+◌, ◌*◌, ◌/◌, ◌<◌, ◌≤◌, ◌&&◌, Bool, true, false, cond, eqb, ltb, leb, List, [], ◌∷◌}
 use Rattle.std.proofs.Common.{◌++◌, length, get_or, refl, sym, ap, ◌∙◌, subst, arith, inl, inr, add-one}
-use Rattle.std.proofs.lemmas.Bool.{cases_eq, cases_lt, cases_order, eq-eqb, ne_eqb, le-leb, lt-ltb}
+use Rattle.std.proofs.lemmas.Bool.{cases_eq, cases_order, eq-eqb, ne_eqb, le-leb, lt-ltb}
 use Rattle.std.proofs.lemmas.List.Sorted.{sum_by-IsPermutation}
 use Rattle.std.proofs.lemmas.List.Sums.{sum_by-cons}
 use Rattle.std.proofs.lemmas.Nat.{div_below}
 use Rattle.std.proofs.lemmas.Bool.Decides.{nat_tests}
-use Rattle.std.proofs.Math.Nat.{mul-le-mul_left, mul_comm}
 use Rattle.std.specs.List.{range_with_len, flat_map, filter, sum_by}
 use Rattle.std.specs.List.Sorted.{IsPermutation}
 use Rattle.pbd_grid.specs.Blocks.{count}
+use Rattle.pbd_grid.proofs.Around.{none_if}
 
 -- ---- cells
 -- two numbers less than t apart are in cells at most one apart
@@ -18,35 +18,27 @@ cells_near t x y lt l =
     let below : x < (y / t + 2) * t = omega arith in
     omega (arith, div_below x t (y / t + 2) lt below)
 
--- a number whose square is below that of t is below t
-pub root_below : (a t : ℕ) → a * a < t * t → a < t
-root_below a t l = elim (cases_lt a t) [
-  | inl h ↦ h
-  | inr h ↦ absurd
-      (omega (arith, mul-le-mul_left a h, mul-le-mul_left t h, mul_comm a t))
-]
-
 -- ---- how often a number stands in a list
+pub at_most_one : (b : Bool) → cond b 1 0 ≤ 1
+at_most_one true = omega arith
+at_most_one false = omega arith
+
 pub count-append : (q : ℕ) (xs ys : List ℕ) → count q (xs ++ ys) ≡ count q xs + count q ys
 count-append q [] ys = omega arith
 count-append q (x ∷ xs) ys = omega (arith, count-append q xs ys)
 
 pub count-filter : (p : ℕ → Bool) (q : ℕ) (xs : List ℕ) → count q (filter p xs) ≡ cond (p q) (count q xs) 0
-count-filter p q [] = go (p q)
-  where
-    go : (b : Bool) → zero ≡ cond b zero zero
-    go true = refl
-    go false = refl
+count-filter p q [] = none_if (p q)
 count-filter p q (x ∷ xs) = elim (cases_eq x q) [
-  | inl e ↦ same e (p q) refl (count-filter p q xs)
+  | inl e ↦ counted_here e (p q) refl (count-filter p q xs)
   | inr ne ↦ other ne (p x) (p q) (count-filter p q xs)
 ]
   where
-    same : x ≡ q → (b : Bool) → p q ≡ b → count q (filter p xs) ≡ cond (p q) (count q xs) 0
+    counted_here : x ≡ q → (b : Bool) → p q ≡ b → count q (filter p xs) ≡ cond (p q) (count q xs) 0
         → count q (cond (p x) (x ∷ filter p xs) (filter p xs)) ≡ cond (p q) (count q (x ∷ xs)) 0
-    same e true k rest = let here : p x ≡ true = ap p e ∙ k in let r : count q (filter p xs) ≡ count q xs = rw k at rest in
+    counted_here e true k rest = let here : p x ≡ true = ap p e ∙ k in let r : count q (filter p xs) ≡ count q xs = rw k at rest in
         rw (here, k, eq-eqb x q e) (omega (arith, r))
-    same e false k rest = let here : p x ≡ false = ap p e ∙ k in let r : count q (filter p xs) ≡ 0 = rw k at rest in rw (here, k) r
+    counted_here e false k rest = let here : p x ≡ false = ap p e ∙ k in let r : count q (filter p xs) ≡ 0 = rw k at rest in rw (here, k) r
 
     other : x ≢ q → (b c : Bool) → count q (filter p xs) ≡ cond c (count q xs) 0
         → count q (cond b (x ∷ filter p xs) (filter p xs)) ≡ cond c (cond (eqb x q) 1 0 + count q xs) 0
@@ -65,11 +57,11 @@ count-permutation q xs ys h = count_sum q ys ∙ sum_by-IsPermutation (λ x. con
 
 pub count-range : (q a n : ℕ) → count q (range_with_len a n) ≡ cond (leb a q && ltb q (a + n)) 1 0
 count-range q a zero = grind (arith, nat_tests)
-count-range q a (suc n) = go (count-range q (a + 1) n)
+count-range q a (suc n) = count_more (count-range q (a + 1) n)
   where
-    go : count q (range_with_len (a + 1) n) ≡ cond (leb (a + 1) q && ltb q (a + 1 + n)) 1 0
+    count_more : count q (range_with_len (a + 1) n) ≡ cond (leb (a + 1) q && ltb q (a + 1 + n)) 1 0
         → cond (eqb a q) 1 0 + count q (range_with_len (a + 1) n) ≡ cond (leb a q && ltb q (a + suc n)) 1 0
-    go r = rw r (grind (arith, nat_tests))
+    count_more r = rw r (grind (arith, nat_tests))
 
 -- ---- rising lists
 -- the numbers rise, from low on
@@ -99,16 +91,16 @@ same_rising low (x ∷ xs) (y ∷ ys) h k same = elim (cases_order x y) [
 
 pub rising_range : (p : ℕ → Bool) (a n : ℕ) → IsRising a (filter p (range_with_len a n))
 rising_range p a zero = tt
-rising_range p a (suc n) = go (p a) (rising_range p (a + 1) n)
+rising_range p a (suc n) = rising_if (p a) (rising_range p (a + 1) n)
   where
     lower : (xs : List ℕ) → IsRising (a + 1) xs → IsRising a xs
     lower [] h = tt
     lower (x ∷ xs) h = (omega (arith, h.0), h.1)
 
-    go : (b : Bool) → IsRising (a + 1) (filter p (range_with_len (a + 1) n))
+    rising_if : (b : Bool) → IsRising (a + 1) (filter p (range_with_len (a + 1) n))
         → IsRising a (cond b (a ∷ filter p (range_with_len (a + 1) n)) (filter p (range_with_len (a + 1) n)))
-    go true h = (omega arith, subst (λ (m : ℕ). IsRising m (filter p (range_with_len (a + 1) n))) (add-one a) h)
-    go false h = lower _ h
+    rising_if true h = (omega arith, subst (λ (m : ℕ). IsRising m (filter p (range_with_len (a + 1) n))) (add-one a) h)
+    rising_if false h = lower _ h
 
 -- ---- look-ups
 module _ {C : Type 0} (same : C → C → Bool) (cell : ℕ → C) (chain : C → List ℕ) (keep : ℕ → Bool) where
@@ -124,21 +116,17 @@ module _ {C : Type 0} (same : C → C → Bool) (cell : ℕ → C) (chain : C �
   -- where q stands once in the chain of its cell, it is found once for each time that its cell is looked up
   pub count-found : (q : ℕ) → (keep q ≡ true → (c : C) → same c (cell q) ≡ true → count q (chain c) ≡ 1) → (cells : List C)
       → count q (found cells) ≡ cond (keep q) (tally q cells) 0
-  count-found q once [] = go (keep q)
-    where
-      go : (b : Bool) → zero ≡ cond b zero zero
-      go true = refl
-      go false = refl
+  count-found q once [] = none_if (keep q)
   count-found q once (c ∷ cells) = count-append q (filter (λ j. same c (cell j) && keep j) (chain c)) (found cells)
       ∙ ap (λ (n : ℕ). n + count q (found cells)) (count-filter (λ j. same c (cell j) && keep j) q (chain c))
-      ∙ go (same c (cell q)) (keep q) (λ e f. once e c f) (count-found q once cells)
+      ∙ found_more (same c (cell q)) (keep q) (λ e f. once e c f) (count-found q once cells)
     where
-      go : (s k : Bool) → (k ≡ true → s ≡ true → count q (chain c) ≡ 1) → count q (found cells) ≡ cond k (tally q cells) 0
+      found_more : (s k : Bool) → (k ≡ true → s ≡ true → count q (chain c) ≡ 1) → count q (found cells) ≡ cond k (tally q cells) 0
           → cond (s && k) (count q (chain c)) 0 + count q (found cells) ≡ cond k (cond s 1 0 + tally q cells) 0
-      go true true one rest = omega (arith, one refl refl, rest)
-      go true false one rest = omega (arith, rest)
-      go false true one rest = omega (arith, rest)
-      go false false one rest = omega (arith, rest)
+      found_more true true one rest = omega (arith, one refl refl, rest)
+      found_more true false one rest = omega (arith, rest)
+      found_more false true one rest = omega (arith, rest)
+      found_more false false one rest = omega (arith, rest)
 
 count_at : (xs : List ℕ) (k : ℕ) → k < length xs → 1 ≤ count (get_or xs k 0) xs
 count_at [] k l = absurd (omega arith)
@@ -165,18 +153,18 @@ module _ {C : Type 0} (same : C → C → Bool) (cell : ℕ → C) (chain : C �
     (adjacent : (q : ℕ) → keep q ≡ true → tally same cell chain keep q around ≡ 1)
     (in_range : (q : ℕ) → keep q ≡ true → (a ≤ q) × (q < a + n)) where
   pub count-kept : (q : ℕ) → count q (found same cell chain keep around) ≡ cond (keep q) 1 0
-  count-kept q = count-found same cell chain keep q (once q) around ∙ go (keep q) refl
+  count-kept q = count-found same cell chain keep q (once q) around ∙ found_where_kept (keep q) refl
     where
-      go : (b : Bool) → keep q ≡ b → cond b (tally same cell chain keep q around) 0 ≡ cond b 1 0
-      go true e = adjacent q e
-      go false e = refl
+      found_where_kept : (b : Bool) → keep q ≡ b → cond b (tally same cell chain keep q around) 0 ≡ cond b 1 0
+      found_where_kept true e = adjacent q e
+      found_where_kept false e = refl
 
   count-row : (q : ℕ) → count q (filter keep (range_with_len a n)) ≡ cond (keep q) 1 0
-  count-row q = count-filter keep q (range_with_len a n) ∙ go (keep q) refl
+  count-row q = count-filter keep q (range_with_len a n) ∙ once_where_kept (keep q) refl
     where
-      go : (b : Bool) → keep q ≡ b → cond b (count q (range_with_len a n)) 0 ≡ cond b 1 0
-      go true e = count-range q a n ∙ rw (le-leb a q (in_range q e).0, lt-ltb q (a + n) (in_range q e).1) refl
-      go false e = refl
+      once_where_kept : (b : Bool) → keep q ≡ b → cond b (count q (range_with_len a n)) 0 ≡ cond b 1 0
+      once_where_kept true e = count-range q a n ∙ rw (le-leb a q (in_range q e).0, lt-ltb q (a + n) (in_range q e).1) refl
+      once_where_kept false e = refl
 
   pub row_is : (ys : List ℕ) → IsPermutation (found same cell chain keep around) ys
       → ((i j : ℕ) → i ≤ j → j < length ys → get_or ys i 0 ≤ get_or ys j 0) → ys ≡ filter keep (range_with_len a n)
@@ -184,13 +172,9 @@ module _ {C : Type 0} (same : C → C → Bool) (cell : ℕ → C) (chain : C �
       let counts : (q : ℕ) → count q ys ≡ cond (keep q) 1 0 = λ q. count-permutation q _ ys moved ∙ count-kept q in
       same_rising a ys (filter keep (range_with_len a n))
       (rising_sorted a ys sorted (λ k l. above (get_or ys k 0) (keep (get_or ys k 0)) refl
-      (rw (counts (get_or ys k 0)) at (count_at ys k l))) (λ q. rw (counts q) (small (keep q))))
+      (rw (counts (get_or ys k 0)) at (count_at ys k l))) (λ q. rw (counts q) (at_most_one (keep q))))
       (rising_range keep a n) (λ q. counts q ∙ sym (count-row q))
     where
-      small : (b : Bool) → cond b 1 0 ≤ 1
-      small true = omega arith
-      small false = omega arith
-
       above : (q : ℕ) (b : Bool) → keep q ≡ b → 1 ≤ cond (keep q) 1 0 → a ≤ q
       above q true e h = (in_range q e).0
       above q false e h = absurd (let h' = rw e at h in omega (arith, h'))

@@ -2,7 +2,7 @@
 use Rattle.std.proofs.Common.{◌≡◌, ℕ, zero, suc, ◌+◌, ◌-◌, ◌*◌, ◌/◌, ◌%◌, ◌<◌, ◌≤◌, ◌^◌, ◌&&◌, Bool, true, false, cond, eqb, ltb, List, []}
 use Rattle.std.proofs.Common.{◌∷◌, ◌++◌, length, map, take, set, Option, Some, None, slice_get, refl, sym, ap, ◌∙◌, subst, arith, inl, inr, add-one}
 use Rattle.std.proofs.Common.{length-append}
-use Rattle.std.proofs.lemmas.Bool.{cases_eq, cases_lt, eq-eqb, ne_eqb, lt-ltb}
+use Rattle.std.proofs.lemmas.Bool.{cases_eq, cases_lt, eq-eqb, ne_eqb, lt-ltb, le-ltb}
 use Rattle.std.proofs.lemmas.Bool.Decides.{nat_tests}
 use Rattle.std.proofs.lemmas.List.{get_or-set_same, get_or-set_other, map-append, take_all}
 use Rattle.std.proofs.lemmas.List.Elements.{filter-append}
@@ -28,11 +28,11 @@ use Rattle.pbd_world.proofs.CountingOn.{filter_length}
 pub first_few : (test : ℕ → Bool) (k : ℕ) (xs : List ℕ) → length (filter test (take k xs)) ≤ k
 first_few test zero xs = omega arith
 first_few test (suc k) [] = omega arith
-first_few test (suc k) (x ∷ xs) = go (test x) (first_few test k xs)
+first_few test (suc k) (x ∷ xs) = first_few_if (test x) (first_few test k xs)
   where
-    go : (b : Bool) → length (filter test (take k xs)) ≤ k → length (cond b (x ∷ filter test (take k xs)) (filter test (take k xs))) ≤ suc k
-    go true h = omega (arith, h)
-    go false h = omega (arith, h)
+    first_few_if : (b : Bool) → length (filter test (take k xs)) ≤ k → length (cond b (x ∷ filter test (take k xs)) (filter test (take k xs))) ≤ suc k
+    first_few_if true h = omega (arith, h)
+    first_few_if false h = omega (arith, h)
 
 pub one_more_passes : (test : ℕ → Bool) (chain : List ℕ) (k x : ℕ) → slice_get chain k ≡ Some x → test x ≡ true
     → length (filter test (take (k + 1) chain)) ≡ length (filter test (take k chain)) + 1
@@ -44,9 +44,6 @@ one_more_passes test chain k x e is =
     ∙ ap (λ (b : Bool). length (filter test (take k chain)) + length (cond b (x ∷ []) [])) is
 
 -- ---- a walk along a falling chain, up to what isn't behind i
-not_behind : (i x : ℕ) → x ≤ i → ltb i x ≡ false
-not_behind i x l = grind (arith, nat_tests)
-
 -- the first of a chain and what comes behind its first k items were read, all of which are behind i
 pub record HasLooked (chain : List ℕ) (i k looks : ℕ) : Type 0 where
   pub count : looks ≡ 1 + length (filter (ltb i) (take k chain))
@@ -63,7 +60,7 @@ module _ {chain : List ℕ} {i k looks : ℕ} (h : HasLooked chain i k looks) wh
 
   pub looked_behind : (high j : ℕ) → IsFalling high chain → slice_get chain k ≡ Some j → j ≤ i → looks ≡ 1 + length (filter (ltb i) chain)
   looked_behind high j falls e l = h.count ∙ ap (λ (xs : List ℕ). 1 + length xs)
-      (all_before (ltb i) i (not_behind i) high chain k j falls e l)
+      (all_before (ltb i) i (le-ltb i) high chain k j falls e l)
 
 pub looks_are : {chains : List (List ℕ)} {count t : ℕ} {cubes : List GridCell} {places : List Vec3} → AreLaid chains count cubes places t
     → (i : ℕ) (c : GridCell) (looks s : ℕ) → s ≡ slot_of count c → s < count
@@ -180,14 +177,14 @@ linked_behind : (xss : List (List ℕ)) (c i : ℕ) → c < length xss → (j s 
     → length (filter (ltb j) (chain_at (set xss c (i ∷ chain_at xss c)) s))
     ≡ length (filter (ltb j) (chain_at xss s)) + cond (ltb j i && eqb c s) 1 0
 linked_behind xss c i l j s = elim (cases_eq c s) [
-  | inl e ↦ rw (← e, get_or-set_same xss c (i ∷ chain_at xss c) [] l, eq-eqb c c refl) (go (ltb j i))
+  | inl e ↦ rw (← e, get_or-set_same xss c (i ∷ chain_at xss c) [] l, eq-eqb c c refl) (counted_behind (ltb j i))
   | inr ne ↦ rw (get_or-set_other xss c s (i ∷ chain_at xss c) [] (λ e. ne (sym e)), ne_eqb c s ne) (none (ltb j i))
 ]
   where
-    go : (b : Bool) → length (cond b (i ∷ filter (ltb j) (chain_at xss c)) (filter (ltb j) (chain_at xss c)))
+    counted_behind : (b : Bool) → length (cond b (i ∷ filter (ltb j) (chain_at xss c)) (filter (ltb j) (chain_at xss c)))
         ≡ length (filter (ltb j) (chain_at xss c)) + cond (b && true) 1 0
-    go true = omega arith
-    go false = omega arith
+    counted_behind true = omega arith
+    counted_behind false = omega arith
 
     none : (b : Bool) → length (filter (ltb j) (chain_at xss s)) ≡ length (filter (ltb j) (chain_at xss s)) + cond (b && false) 1 0
     none true = omega arith
@@ -205,17 +202,17 @@ range_behind test i j = elim (cases_lt j i) [
       ∙ ap (λ (xs : List ℕ). length (filter test xs)) (range_more (j + 1) (i - (j + 1)) i last)
       ∙ ap length (filter-append test (range_with_len (j + 1) (i - (j + 1))) (i ∷ []))
       ∙ length-append (filter test (range_with_len (j + 1) (i - (j + 1)))) (cond (test i) (i ∷ []) [])
-      ∙ rw here (go (test i)))
+      ∙ rw here (one_more_if (test i)))
   | inr l ↦ (
       let here : ltb j i ≡ false = grind (arith, nat_tests) in
       let same : i + 1 - (j + 1) ≡ i - (j + 1) = omega (arith, l) in
       ap (λ (n : ℕ). length (filter test (range_with_len (j + 1) n))) same ∙ rw here (omega arith))
 ]
   where
-    go : (b : Bool) → length (filter test (range_with_len (j + 1) (i - (j + 1)))) + length (cond b (i ∷ []) [])
+    one_more_if : (b : Bool) → length (filter test (range_with_len (j + 1) (i - (j + 1)))) + length (cond b (i ∷ []) [])
         ≡ length (filter test (range_with_len (j + 1) (i - (j + 1)))) + cond b 1 0
-    go true = refl
-    go false = refl
+    one_more_if true = refl
+    one_more_if false = refl
 
 -- the chains hold those before i, so that as many stand behind j in chain s as have that chain
 abbrev pub AreBehind : (ℕ → ℕ) → List (List ℕ) → ℕ → ℕ → Type 0

@@ -5,7 +5,7 @@ use Rattle.std.proofs.lemmas.List.{get_or-map}
 use Rattle.pbd_num.specs.Vectors.{zero_vector}
 use Rattle.pbd_num.proofs.Sizes.{pos_size}
 use Rattle.std.specs.Prelude.{int_lt}
-use Rattle.std.proofs.lemmas.Bool.{false≢true}
+use Rattle.std.proofs.lemmas.Bool.{false≢true, le-ltb}
 use Rattle.std.proofs.lemmas.Bool.Decides.{nat_tests}
 use Rattle.std.proofs.lemmas.Int.{ints}
 use Rattle.std.proofs.lemmas.Nat.{div_below, div-mul-add}
@@ -41,11 +41,8 @@ axis_below side m low small =
     sym (ap (λ (k : ℕ). k / side) (shifted_below side m (omega (arith, low, small)) ∙ rest)
     ∙ div-mul-add r side (q * side + side - suc m) (omega (arith, floor, ceiling)))
 
-none_below : (n : ℕ) → ltb n 0 ≡ false
-none_below n = grind (arith, nat_tests)
-
 not_left : (n : ℕ) → int_lt (pos n) (pos 0) ≡ false
-not_left n = none_below n
+not_left n = le-ltb n 0 (omega arith)
 
 left_of : (side : ℕ) (x : ℤ) → 0 < side → unsigned_abs x ≤ 536870912 → int_lt x (pos 0) ≡ true
     → 536870911 - (unsigned_abs x - 1) / side ≡ axis_cell side x

@@ -13,7 +13,7 @@ use Rattle.pbd_grid.specs.declared.lookup.GridCell.{GridCell}
 use Rattle.pbd_grid.specs.Near.{place_at, AllInside, is_near, near_pairs}
 use Rattle.pbd_grid.specs.Blocks.{count, axis_cell, cube_of, cube_at, home_of, corner_of, cell_at, same_cell, slot_of, keep, kept_row}
 use Rattle.pbd_grid.specs.Blocks.{all_picked, block_part, AreOnce}
-use Rattle.pbd_grid.proofs.Cells.{tally, count-kept, row_is}
+use Rattle.pbd_grid.proofs.Cells.{tally, count-kept, row_is, at_most_one}
 use Rattle.pbd_grid.proofs.Around.{passing, around, passing-around}
 use Rattle.pbd_grid.proofs.Finding.{keeps, rows, part, rows_more, found_le, IsFoundRows}
 use Rattle.pbd_grid.proofs.Looking.{axis_near, home_from, home_to, gap_turn}
@@ -101,13 +101,9 @@ module _ (chains : List (List ℕ)) (side : ℕ) (places : List Vec3) (test : �
 
     pub row_fits : length (all_picked chains places side test i (block_part (corner_of (cube_at side places i)) 8)) ≤ length places
     row_fits = few_numbers (length places) (all_picked chains places side test i (block_part (corner_of (cube_at side places i)) 8))
-        (λ q. omega (arith, counted q, at_most (keep places side test i q)))
+        (λ q. omega (arith, counted q, at_most_one (keep places side test i q)))
         (λ q l. counted q ∙ none (keep places side test i q) (λ e. absurd (let k = kept_parts q e in omega (arith, k.0, l))))
       where
-        at_most : (b : Bool) → cond b 1 0 ≤ 1
-        at_most true = omega arith
-        at_most false = omega arith
-
         none : (b : Bool) → (b ≡ true → ⊥) → ◌≡◌ {A = ℕ} (cond b 1 0) 0
         none true h = absurd (h refl)
         none false h = refl
@@ -126,12 +122,12 @@ length_pairs f (x ∷ xs) = ap suc (length_pairs f xs)
 map_filter : (f : ℕ → ℕ × ℕ) (p : ℕ × ℕ → Bool) (r : ℕ → Bool) (xs : List ℕ)
     → ((k : ℕ) → k < length xs → r (get_or xs k 0) ≡ p (f (get_or xs k 0))) → map f (filter r xs) ≡ filter p (map f xs)
 map_filter f p r [] h = refl
-map_filter f p r (x ∷ xs) h = rw (h 0 (omega arith)) (go (p (f x)) (map_filter f p r xs (λ k l. h (suc k) (omega arith))))
+map_filter f p r (x ∷ xs) h = rw (h 0 (omega arith)) (map_if (p (f x)) (map_filter f p r xs (λ k l. h (suc k) (omega arith))))
   where
-    go : (b : Bool) → map f (filter r xs) ≡ filter p (map f xs)
+    map_if : (b : Bool) → map f (filter r xs) ≡ filter p (map f xs)
         → map f (cond b (x ∷ filter r xs) (filter r xs)) ≡ cond b (f x ∷ filter p (map f xs)) (filter p (map f xs))
-    go true e = ap (λ (ys : List (ℕ × ℕ)). f x ∷ ys) e
-    go false e = e
+    map_if true e = ap (λ (ys : List (ℕ × ℕ)). f x ∷ ys) e
+    map_if false e = e
 
 module _ (places : List Vec3) (t : ℕ) (test : ℕ → ℕ → Bool) where
   pub row_part : (i : ℕ) → map (λ (j : ℕ). (i, j)) (kept_row places t test i) ≡ part places (pos t) test i (length places - (i + 1))

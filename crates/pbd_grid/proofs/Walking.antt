@@ -16,12 +16,12 @@ filter_take_le : (p : ℕ → Bool) (xs : List ℕ) (k : ℕ) → length (filter
 filter_take_le p [] zero = omega arith
 filter_take_le p [] (suc k) = omega arith
 filter_take_le p (x ∷ xs) zero = omega arith
-filter_take_le p (x ∷ xs) (suc k) = go (p x) (filter_take_le p xs k)
+filter_take_le p (x ∷ xs) (suc k) = kept_le (p x) (filter_take_le p xs k)
   where
-    go : (b : Bool) → length (filter p (take k xs)) ≤ length (filter p xs)
+    kept_le : (b : Bool) → length (filter p (take k xs)) ≤ length (filter p xs)
         → length (cond b (x ∷ filter p (take k xs)) (filter p (take k xs))) ≤ length (cond b (x ∷ filter p xs) (filter p xs))
-    go true h = omega (arith, h)
-    go false h = h
+    kept_le true h = omega (arith, h)
+    kept_le false h = h
 
 -- the first k items of the chain were looked at
 pub record IsKept (test : ℕ → Bool) (chain : List ℕ) (at : Option ℕ) (k : ℕ) (old now : Roomed ℕ) : Type 0 where

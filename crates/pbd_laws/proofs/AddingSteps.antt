@@ -2,7 +2,7 @@
 use Rattle.std.proofs.Common.{◌≡◌, refl, sym, ap, ◌∙◌, ℕ, zero, suc, ◌+◌, ◌<◌, ◌≤◌, ◌⊎◌, inl, inr, Bool, true, false, not, ◌&&◌, List, []}
 use Rattle.std.proofs.Common.{◌∷◌, map, arith}
 use Rattle.std.specs.Prelude.{Result, Ok, Err, IfOk, if◌then◌else◌, nat_le, nat_lt, sum}
-use Rattle.std.proofs.lemmas.Bool.{le-leb, lt-ltb, ltb-true, ltb-false, leb-true, and_parts, and_from, cases_lt, not_from_true}
+use Rattle.std.proofs.lemmas.Bool.{le-leb, lt-ltb, ltb-true, ltb-false, leb-true, and_parts, and_from, cases_lt, not_from_true, not-false}
 use Rattle.std.proofs.lemmas.List.Sums.{sum_by-cons}
 use Rattle.pbd_world.specs.declared.command.Command.{Command}
 use Rattle.pbd_world.specs.declared.command.Command.TheVariants.{Step}
@@ -66,11 +66,11 @@ counts n low high = not_from_true (nat_le 1 n && nat_le n 100000)
     (and_from (nat_le 1 n) (nat_le n 100000) (le-leb 1 n low) (le-leb n 100000 high))
 
 not_above : (a b : ℕ) → b ≤ a → nat_lt a b ≡ false
-not_above a b h = by (nat_lt a b) refl
+not_above a b h = never_above (nat_lt a b) refl
   where
-    by : (t : Bool) → nat_lt a b ≡ t → t ≡ false
-    by true e = absurd (omega (arith, h, ltb-true a b e))
-    by false e = refl
+    never_above : (t : Bool) → nat_lt a b ≡ t → t ≡ false
+    never_above true e = absurd (omega (arith, h, ltb-true a b e))
+    never_above false e = refl
 
 pub run_is : (w : World) (n : ℕ) → 1 ≤ n → n ≤ 100000 → w.steps + n ≤ 1000000 → outcome w (Step n) ≡ steps_of n w
 run_is w n low high room =
@@ -94,18 +94,14 @@ pub record Ran (w : World) (n : ℕ) (v : World) : Type 0 where
   pub is : steps_of n w ≡ Ok v
 
 ran : (w : World) (n : ℕ) (v : World) → outcome w (Step n) ≡ Ok v → Ran w n v
-ran w n v h = by (not (nat_le 1 n && nat_le n 100000)) (nat_lt 1000000 (w.steps + n)) refl refl h
+ran w n v h = ran_by_tests (not (nat_le 1 n && nat_le n 100000)) (nat_lt 1000000 (w.steps + n)) refl refl h
   where
-    was_true : (b : Bool) → not b ≡ false → b ≡ true
-    was_true true e = refl
-    was_true false e = sym e
-
-    by : (b c : Bool) → not (nat_le 1 n && nat_le n 100000) ≡ b → nat_lt 1000000 (w.steps + n) ≡ c
+    ran_by_tests : (b c : Bool) → not (nat_le 1 n && nat_le n 100000) ≡ b → nat_lt 1000000 (w.steps + n) ≡ c
         → (unless ((b, BadCount) ∷ (c, StepLimit) ∷ []) w >>= steps_of n) ≡ Ok v → Ran w n v
-    by true c e f h = absurd (cc)
-    by false true e f h = absurd (cc)
-    by false false e f h =
-        let both = and_parts (nat_le 1 n) (nat_le n 100000) (was_true (nat_le 1 n && nat_le n 100000) e) in
+    ran_by_tests true c e f h = absurd (cc)
+    ran_by_tests false true e f h = absurd (cc)
+    ran_by_tests false false e f h =
+        let both = and_parts (nat_le 1 n) (nat_le n 100000) (not-false (nat_le 1 n && nat_le n 100000) e) in
         record { low = leb-true 1 n both.0; high = leb-true n 100000 both.1; room = ltb-false 1000000 (w.steps + n) f; is = h }
 
 -- ---- what was answered
@@ -182,12 +178,12 @@ first-stops w m n refusal low high room h =
 
 answers : (w : World) (n : ℕ) → (reply w (Step n) ≡ replies.Done) ⊎ ((e : Refusal) × (reply w (Step n) ≡ replies.Refused e))
 unfolding meaning
-answers w n = by (outcome w (Step n))
+answers w n = answer_of (outcome w (Step n))
   where
-    by : (r : Result World Refusal) → ((done_or_refused w replies.Done r).1 ≡ replies.Done)
+    answer_of : (r : Result World Refusal) → ((done_or_refused w replies.Done r).1 ≡ replies.Done)
         ⊎ ((e : Refusal) × ((done_or_refused w replies.Done r).1 ≡ replies.Refused e))
-    by (Ok v) = inl refl
-    by (Err e) = inr (e, refl)
+    answer_of (Ok v) = inl refl
+    answer_of (Err e) = inr (e, refl)
 
 pub whole-done : (w : World) (m n : ℕ) → 1 ≤ m → 1 ≤ n → reply w (Step (m + n)) ≡ replies.Done
     → (reply w (Step m) ≡ replies.Done) × (reply (after w (Step m)) (Step n) ≡ replies.Done)

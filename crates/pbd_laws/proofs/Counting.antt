@@ -1,12 +1,10 @@
 -- What steps and sessions may cost, by the sizes of the scene.
 use Rattle.std.proofs.Common.{◌≡◌, refl, sym, ap, ◌∙◌, ℕ, zero, suc, ◌+◌, ◌-◌, ◌*◌, ◌/◌, ◌%◌, ◌<◌, ◌≤◌, min, Bool, true, false, not, ◌&&◌}
 use Rattle.std.proofs.Common.{List, [], ◌∷◌, length, arith, pos, subst, inl, inr}
-use Rattle.std.specs.Prelude.{Result, Ok, Err, IfOk, IsTrue, if◌then◌else◌, nat_le, nat_lt, ◌==◌, filter, cond, int_lt, unsigned_abs}
+use Rattle.std.specs.Prelude.{Result, Ok, Err, IfOk, IsTrue, if◌then◌else◌, nat_le, nat_lt, ◌==◌, int_lt, unsigned_abs}
 use Rattle.std.specs.List.{range_with_len}
 use Rattle.std.proofs.lemmas.Bool.{ltb-false, cases_lt}
 use Rattle.std.proofs.Math.Nat.{mul-le-mul, div-add-mod, min-le_right}
-use Rattle.pbd_num.specs.Vectors.{zero_vector}
-use Rattle.pbd_world.specs.declared.parts.Particle.{Particle}
 use Rattle.pbd_world.specs.declared.parts.Link.{Link}
 use Rattle.pbd_world.specs.declared.parts.Parts.{Parts}
 use Rattle.pbd_world.specs.declared.command.Command.{Command}
@@ -23,36 +21,29 @@ use Rattle.pbd_world.specs.Step.{step}
 use Rattle.pbd_world.specs.Meaning.{after, reply}
 use Rattle.pbd_world.specs.Work.{blocks_in, of_colour_count, tearable_count, colours_used, finding_work, step_work, found_in, work_from}
 use Rattle.pbd_world.specs.Work.{work_over, steps_work, command_work, reply_work, session_work}
-use Rattle.pbd_world.proofs.KeepingOn.{length-mapped}
 use Rattle.pbd_world.proofs.OpenedLemmas.{opened-is_sound}
 use Rattle.pbd_world.proofs.StepSound.{step_sound}
 use Rattle.pbd_world.proofs.CommandSound.{command-sound, command-scene}
 use Rattle.pbd_world.proofs.WorkLemmas.{finding_is, step_few}
 use Rattle.pbd_laws.specs.Costs.{most_of_step, steps_in, most_of_session}
 use Rattle.std.proofs.lemmas.List.FromFn.{length-range_with_len}
+use Rattle.pbd_world.proofs.CountingOn.{filter_length}
+use Rattle.pbd_world.proofs.SameShape.{scene_particles, scene_links}
 
 -- ---- a step
-
-filter_few : {A : Type 0} (test : A → Bool) (xs : List A) → length (filter test xs) ≤ length xs
-filter_few test [] = omega arith
-filter_few test (x ∷ xs) = by (test x) (filter_few test xs)
-  where
-    by : (b : Bool) → length (filter test xs) ≤ length xs → length (cond b (x ∷ filter test xs) (filter test xs)) ≤ suc (length xs)
-    by true h = omega (arith, h)
-    by false h = omega (arith, h)
 
 colours_few : (links : List Link) → colours_used links ≤ 63
 unfolding colours_used
 colours_few links =
-    let few = filter_few (λ c. nat_lt 0 (of_colour_count (link_pairs links) (live_flags links) c)) (range_with_len 0 63) in
+    let few = filter_length (λ c. nat_lt 0 (of_colour_count (link_pairs links) (live_flags links) c)) (range_with_len 0 63) in
     omega (arith, few, length-range_with_len 0 63)
 
 finding_few : (w : World) → finding_work w ≤ length w.particles
-finding_few w = subst (λ n. n ≤ length w.particles) (sym (finding_is w)) (by (unsigned_abs w.thickness == 0))
+finding_few w = subst (λ n. n ≤ length w.particles) (sym (finding_is w)) (none_or_all (unsigned_abs w.thickness == 0))
   where
-    by : (b : Bool) → (if b then 0 else length w.particles) ≤ length w.particles
-    by true = omega arith
-    by false = omega arith
+    none_or_all : (b : Bool) → (if b then 0 else length w.particles) ≤ length w.particles
+    none_or_all true = omega arith
+    none_or_all false = omega arith
 
 less_parts : (m k n : ℕ) → 0 < n → m ≤ k → m / n ≤ k / n
 less_parts m k n some h = elim (cases_lt (k / n) (m / n)) [
@@ -67,9 +58,9 @@ less_parts m k n some h = elim (cases_lt (k / n) (m / n)) [
 step_most : (width lanes : ℕ) (w : World) → 0 < lanes → IsSound w → step_work width lanes w (found_in w) ≤ most_of_step width lanes w
 unfolding most_of_step
 step_most width lanes w some sound =
-    let live = filter_few {A = Link} (λ l. l.live) w.links in
+    let live = filter_length {A = Link} (λ l. l.live) w.links in
     let parts : live_count w.links / lanes ≤ length w.links / lanes = less_parts (live_count w.links) (length w.links) lanes some live in
-    let tears : tearable_count w.links ≤ length w.links = filter_few {A = Link} (λ l. l.live && int_lt (pos 0) l.tear) w.links in
+    let tears : tearable_count w.links ≤ length w.links = filter_length {A = Link} (λ l. l.live && int_lt (pos 0) l.tear) w.links in
     let inner : live_count w.links / lanes + colours_used w.links + min (length (found_in w)) 262144 + blocks_in width w
     ≤ length w.links / lanes + 63 + 262144 + blocks_in width w =
     omega (arith, parts, colours_few w.links, min-le_right (length (found_in w)) 262144) in
@@ -81,14 +72,8 @@ same_most : (width lanes : ℕ) (w v : World) → AreOfOneScene w v
     → (most_of_step width lanes v ≡ most_of_step width lanes w) × (length v.particles ≡ length w.particles)
 unfolding most_of_step
 same_most width lanes w v e =
-    let bare : Particle → Particle = λ p. record p { at = zero_vector; before = zero_vector; held = false } in
-    let particles : length v.particles ≡ length w.particles =
-    sym (length-mapped {A = Particle} {B = Particle} bare v.particles) ∙ sym (ap (λ (x : World). length x.particles) e)
-    ∙ length-mapped {A = Particle} {B = Particle} bare w.particles in
-    let gone : Link → Link = λ l. record l { live = false } in
-    let links : length v.links ≡ length w.links =
-    sym (length-mapped {A = Link} {B = Link} gone v.links) ∙ sym (ap (λ (x : World). length x.links) e)
-    ∙ length-mapped {A = Link} {B = Link} gone w.links in
+    let particles : length v.particles ≡ length w.particles = sym (scene_particles w v e) in
+    let links : length v.links ≡ length w.links = sym (scene_links w v e) in
     let passes : v.passes ≡ w.passes = sym (ap (λ (x : World). x.passes) e) in
     let tracks : length v.tracks ≡ length w.tracks = sym (ap (λ (x : World). length x.tracks) e) in
     let sum : ℕ → ℕ → ℕ → ℕ → ℕ = λ p l n t. 4 * ((p + width - 1) / width + n * (l / lanes + 63 + 262144 + (p + width - 1) / width)) + t + p
@@ -109,28 +94,28 @@ over_most : (width lanes n : ℕ) (w : World) → 0 < lanes → IsSound w → w.
     → work_over width lanes n w ≤ n * most_of_step width lanes w
 unfolding work_over
 over_most width lanes zero w some sound room = omega arith
-over_most width lanes (suc n) w some sound room = by (step w) refl (λ v s r. over_most width lanes n v some s r)
+over_most width lanes (suc n) w some sound room = most_after (step w) refl (λ v s r. over_most width lanes n v some s r)
   where
-    by : (r : Result World Refusal) → step w ≡ r
+    most_after : (r : Result World Refusal) → step w ≡ r
         → ((v : World) → IsSound v → v.steps + n ≤ 1000000 → work_over width lanes n v ≤ n * most_of_step width lanes v)
         → step_work width lanes w (found_in w) + work_from (work_over width lanes n) r ≤ suc n * most_of_step width lanes w
-    by (Ok v) e later =
+    most_after (Ok v) e later =
         let next = ok_at (λ u. IsSound u × (u.steps ≡ w.steps + 1) × AreOfOneScene w u) (step w) v e
         (step_sound w sound (omega (arith, room))) in
         let rest = later v next.0 (omega (arith, room, next.1)) in
         let same = ap (λ m. n * m) (same_most width lanes w v next.2).0 in
         omega (arith, rest, same, step_most width lanes w some sound)
-    by (Err f) e later = omega (arith, step_most width lanes w some sound)
+    most_after (Err f) e later = omega (arith, step_most width lanes w some sound)
 
 pub steps-most : (width lanes n : ℕ) (w : World) → 0 < lanes → IsSound w → steps_work width lanes n w ≤ n * most_of_step width lanes w
 unfolding steps_work
-steps-most width lanes n w some sound = by (not (nat_le 1 n && nat_le n 100000)) (nat_lt 1000000 (w.steps + n)) refl
+steps-most width lanes n w some sound = most_by_tests (not (nat_le 1 n && nat_le n 100000)) (nat_lt 1000000 (w.steps + n)) refl
   where
-    by : (b c : Bool) → nat_lt 1000000 (w.steps + n) ≡ c
+    most_by_tests : (b c : Bool) → nat_lt 1000000 (w.steps + n) ≡ c
         → work_from (work_over width lanes n) (unless ((b, BadCount) ∷ (c, StepLimit) ∷ []) w) ≤ n * most_of_step width lanes w
-    by true c e = omega arith
-    by false true e = omega arith
-    by false false e = over_most width lanes n w some sound (ltb-false 1000000 (w.steps + n) e)
+    most_by_tests true c e = omega arith
+    most_by_tests false true e = omega arith
+    most_by_tests false false e = over_most width lanes n w some sound (ltb-false 1000000 (w.steps + n) e)
 
 -- ---- sessions
 

@@ -1,7 +1,6 @@
 -- Commands that change one thing, as edits of a world, and that edits of different things commute.
-use Rattle.std.proofs.Common.{◌≡◌, ◌≢◌, refl, sym, ap, ◌∙◌, Bool, true, false, List, [], ◌∷◌, length, length-set, ℤ, ◌+ℤ◌, arith}
+use Rattle.std.proofs.Common.{◌≡◌, ◌≢◌, refl, sym, ap, ◌∙◌, Bool, true, false, List, [], ◌∷◌, length, length-set}
 use Rattle.std.specs.Prelude.{Option, Some, None, Result, Ok, Err, if◌then◌else◌, slice_set as set}
-use Rattle.std.proofs.lemmas.Int.{ints}
 use Rattle.std.proofs.lemmas.List.{get_or-set_other, set_comm}
 use Rattle.pbd_num.specs.declared.Vec3.{Vec3}
 use Rattle.pbd_world.specs.declared.parts.Link.{Link}
@@ -9,7 +8,7 @@ use Rattle.pbd_world.specs.declared.command.Command.{Command}
 use Rattle.pbd_world.specs.declared.command.Refusal.{Refusal}
 use Rattle.pbd_world.specs.declared.command.Reply.{Reply}
 use Rattle.pbd_world.specs.declared.command.Reply.TheVariants as replies
-use Rattle.pbd_world.specs.Ledger.{Ledger}
+use Rattle.pbd_world.specs.Ledger.{Ledger, Sum}
 use Rattle.pbd_world.specs.Particles.{no_particle, particle_at}
 use Rattle.pbd_world.specs.World.{World}
 use Rattle.pbd_world.specs.Outcomes.{unless}
@@ -20,6 +19,7 @@ use Rattle.pbd_world.specs.Meaning.Edit.{OnParticle, OnLink, OnGravity}
 use Rattle.pbd_world.specs.Meaning.Deed.{Steps, Edits, Answers}
 use Rattle.pbd_laws.specs.Targets.{Target, target, place_of, place_in}
 use Rattle.pbd_laws.specs.Targets.Target.{OneParticle, OneLink, TheGravity}
+use Rattle.pbd_world.proofs.MovedLemmas.{sum_in_turn}
 
 -- ---- a command is its edit, where no test refuses it
 
@@ -40,21 +40,21 @@ told (Err e) = replies.Refused e
 done_world : (a : Reply) (tests : List (Bool × Refusal)) (w v : World)
     → (done_or_refused w a (unless tests v)).0 ≡ either (unless tests tt) w v
 done_world a [] w v = refl
-done_world a (t ∷ tests) w v = by t.0 (done_world a tests w v)
+done_world a (t ∷ tests) w v = world_by_test t.0 (done_world a tests w v)
   where
-    by : (b : Bool) → (done_or_refused w a (unless tests v)).0 ≡ either (unless tests tt) w v
+    world_by_test : (b : Bool) → (done_or_refused w a (unless tests v)).0 ≡ either (unless tests tt) w v
         → (done_or_refused w a (if b then Err t.1 else unless tests v)).0 ≡ either (if b then Err t.1 else unless tests tt) w v
-    by true h = refl
-    by false h = h
+    world_by_test true h = refl
+    world_by_test false h = h
 
 done_reply : (tests : List (Bool × Refusal)) (w v : World) → (done_or_refused w replies.Done (unless tests v)).1 ≡ told (unless tests tt)
 done_reply [] w v = refl
-done_reply (t ∷ tests) w v = by t.0 (done_reply tests w v)
+done_reply (t ∷ tests) w v = reply_by_test t.0 (done_reply tests w v)
   where
-    by : (b : Bool) → (done_or_refused w replies.Done (unless tests v)).1 ≡ told (unless tests tt)
+    reply_by_test : (b : Bool) → (done_or_refused w replies.Done (unless tests v)).1 ≡ told (unless tests tt)
         → (done_or_refused w replies.Done (if b then Err t.1 else unless tests v)).1 ≡ told (if b then Err t.1 else unless tests tt)
-    by true h = refl
-    by false h = h
+    reply_by_test true h = refl
+    reply_by_test false h = h
 
 -- a command that edits, and the thing that it names
 pub record EditOf (c : Command) (t : Target) : Type 0 where
@@ -63,15 +63,15 @@ pub record EditOf (c : Command) (t : Target) : Type 0 where
   pub at : place_of edit ≡ t
 
 pub edit-of : (c : Command) (t : Target) → target c ≡ Some t → EditOf c t
-edit-of c t h = by (deed c) refl h
+edit-of c t h = edit_of_deed (deed c) refl h
   where
-    same : (s : Target) → Some s ≡ Some t → s ≡ t
-    same s e = cc
+    targets_agree : (s : Target) → Some s ≡ Some t → s ≡ t
+    targets_agree s e = cc
 
-    by : (d : Deed) → deed c ≡ d → place_in d ≡ Some t → EditOf c t
-    by (Steps n) e h = absurd (cc)
-    by (Edits edit) e h = record { edit = edit; is = e; at = same (place_of edit) h }
-    by (Answers reply) e h = absurd (cc)
+    edit_of_deed : (d : Deed) → deed c ≡ d → place_in d ≡ Some t → EditOf c t
+    edit_of_deed (Steps n) e h = absurd (cc)
+    edit_of_deed (Edits edit) e h = record { edit = edit; is = e; at = targets_agree (place_of edit) h }
+    edit_of_deed (Answers reply) e h = absurd (cc)
 
 pub after-is : (w : World) (c : Command) (t : Target) (e : EditOf c t) → after w c ≡ either (verdict w c) w (edited w e.edit)
 unfolding meaning
@@ -139,14 +139,10 @@ edited-agrees w (OnGravity g) t h =
 
 -- ---- edits of different things commute
 
-sums_swap : (a u v : ℤ) → (a +ℤ u) +ℤ v ≡ (a +ℤ v) +ℤ u
-sums_swap a u v = omega (arith, ints)
-
 pins_swap : (t : Ledger) (u v : Option Vec3) → pinned_by (pinned_by t u) v ≡ pinned_by (pinned_by t v) u
 pins_swap t None v = refl
 pins_swap t (Some u) None = refl
-pins_swap t (Some u) (Some v) =
-    λ i. record t { pin = record { x = sums_swap t.pin.x u.x v.x i; y = sums_swap t.pin.y u.y v.y i; z = sums_swap t.pin.z u.z v.z i } }
+pins_swap t (Some u) (Some v) = ap (λ (s : Sum). record t { pin = s }) (sum_in_turn t.pin u v)
 
 pub edits-commute : (w : World) (e f : Edit) → place_of e ≢ place_of f → edited (edited w e) f ≡ edited (edited w f) e
 edits-commute w (OnParticle i f m) (OnParticle j g k) h =

@@ -122,18 +122,18 @@ bonds_hold i p limit bond ns m h =
 
 shaped_stays : (limit : ℤ) (shapes : List Shape) (p : Particle) → IfSome (shaped limit shapes p) (λ s. p.held ≡ true → s.moved.particle ≡ p)
 unfolding shaped
-shaped_stays limit shapes p = by p.held refl
+shaped_stays limit shapes p = stays_if_held p.held refl
   where
     free : (o : Option Way) → p.held ≡ false → IfSome (option_map (shaped_by p) o) (λ s. p.held ≡ true → s.moved.particle ≡ p)
     free None e = tt
     free (Some way) e = λ h. absurd (false≢true (sym e ∙ h))
 
-    by : (held : Bool) → p.held ≡ held
+    stays_if_held : (held : Bool) → p.held ≡ held
         → IfSome (if held then Some (still p) else option_map (shaped_by p)
         (way_through limit shapes (record { at = p.at; touched = false })))
         (λ s. p.held ≡ true → s.moved.particle ≡ p)
-    by true e = λ h. refl
-    by false e = free (way_through limit shapes (record { at = p.at; touched = false })) e
+    stays_if_held true e = λ h. refl
+    stays_if_held false e = free (way_through limit shapes (record { at = p.at; touched = false })) e
 
 -- what holds of a pass: particle i is p, and it has a flag
 pub record PassHolds (i : ℕ) (p : Particle) (s : Passing) : Type 0 where

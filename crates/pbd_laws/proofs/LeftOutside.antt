@@ -13,7 +13,6 @@ use Rattle.pbd_num.specs.declared.Vec3.{Vec3}
 use Rattle.pbd_num.specs.Rounding.{rdiv}
 use Rattle.pbd_num.specs.Vectors.{on_axes, plus, minus, dot, scaled, squared_length, length_of, is_within}
 use Rattle.pbd_num.proofs.RoundingLemmas.{root-square, le_root}
-use Rattle.pbd_num.proofs.Sizes.{square_of}
 use Rattle.pbd_world.specs.declared.parts.Particle.{Particle}
 use Rattle.pbd_world.specs.declared.parts.Plane.{Plane}
 use Rattle.pbd_world.specs.declared.parts.Sphere.{Sphere}
@@ -31,14 +30,12 @@ use Rattle.pbd_laws.specs.Solids.{Solid, solids_of, shape_by, CanPush, later_or,
 use Rattle.pbd_laws.specs.Solids.Solid.{APlane, ASphere}
 use Rattle.pbd_laws.proofs.Rounded.{IsNear, near, cancel, far-vector}
 use Rattle.pbd_laws.proofs.Counting.{ok_at}
+use Rattle.pbd_num.proofs.Lengths.{dot_square}
 
 same_some : {A : Type 0} (x y : A) → Some x ≡ Some y → x ≡ y
 same_some x y e = cc
 
 -- ---- a plane
-
-dot_self : (v : Vec3) → dot v v ≡ pos (squared_length v)
-dot_self v = omega (arith, ints, square_of v.x, square_of v.y, square_of v.z)
 
 split_axis : (a p q : ℤ) → a *ℤ (p +ℤ q) ≡ a *ℤ p +ℤ a *ℤ q
 split_axis a p q = omega (arith, ints, ap (λ k. up a * k) (sum_is_lem p q), ap (λ k. down a * k) (sum_is_lem p q))
@@ -89,7 +86,7 @@ positive (negsuc n) e = absurd (false≢true e)
 
 plane-out : (plane : Plane) (p to : Vec3) → 0 < squared_length plane.normal → plane_shape plane p ≡ Some to → IsOut (APlane plane) to
 unfolding plane_shape plane_to
-plane-out plane p to some h = by (int_lt (pos 0) (plane.offset -ℤ dot plane.normal p)) refl h
+plane-out plane p to some h = out_where_pushed (int_lt (pos 0) (plane.offset -ℤ dot plane.normal p)) refl h
   where
     moved : int_lt (pos 0) (plane.offset -ℤ dot plane.normal p) ≡ true
         → IsOut (APlane plane) (plane_to plane.normal p (plane.offset -ℤ dot plane.normal p) (dot plane.normal plane.normal))
@@ -98,15 +95,15 @@ plane-out plane p to some h = by (int_lt (pos 0) (plane.offset -ℤ dot plane.no
         let lack = plane.offset -ℤ dot n p in
         let is = positive lack e in
         subst (λ l. IsOut (APlane plane) (plane_to n p l (dot n n))) (sym is)
-        (subst (λ d. IsOut (APlane plane) (plane_to n p (pos (unsigned_abs lack)) d)) (sym (dot_self n))
+        (subst (λ d. IsOut (APlane plane) (plane_to n p (pos (unsigned_abs lack)) d)) (sym (dot_square n))
         (plane_moved n p plane.offset (unsigned_abs lack) (squared_length n) some refl is))
 
-    by : (b : Bool) → int_lt (pos 0) (plane.offset -ℤ dot plane.normal p) ≡ b
+    out_where_pushed : (b : Bool) → int_lt (pos 0) (plane.offset -ℤ dot plane.normal p) ≡ b
         → (if b then Some (plane_to plane.normal p (plane.offset -ℤ dot plane.normal p) (dot plane.normal plane.normal)) else None)
         ≡ Some to → IsOut
         (APlane plane) to
-    by true e h = subst (IsOut (APlane plane)) (same_some _ to h) (moved e)
-    by false e h = absurd (cc)
+    out_where_pushed true e h = subst (IsOut (APlane plane)) (same_some _ to h) (moved e)
+    out_where_pushed false e h = absurd (cc)
 
 -- ---- a sphere
 
@@ -163,7 +160,7 @@ onto_far k sphere p is =
 
 sphere-out : (sphere : Sphere) (p to : Vec3) → sphere_shape sphere p ≡ Some to → IsOut (ASphere sphere) to
 unfolding sphere_shape
-sphere-out sphere p to h = by (int_lt (pos (length_of (minus p sphere.centre))) sphere.radius) refl h
+sphere-out sphere p to h = out_where_pushed (int_lt (pos (length_of (minus p sphere.centre))) sphere.radius) refl h
   where
     out : int_lt (pos (length_of (minus p sphere.centre))) sphere.radius ≡ true → IsOut (ASphere sphere) (onto_sphere sphere p)
     out e =
@@ -171,10 +168,10 @@ sphere-out sphere p to h = by (int_lt (pos (length_of (minus p sphere.centre))) 
         let far = onto_far radius.0 sphere p radius.1 in
         omega (arith, ints, far, radius.1)
 
-    by : (b : Bool) → int_lt (pos (length_of (minus p sphere.centre))) sphere.radius ≡ b
+    out_where_pushed : (b : Bool) → int_lt (pos (length_of (minus p sphere.centre))) sphere.radius ≡ b
         → (if b then Some (onto_sphere sphere p) else None) ≡ Some to → IsOut (ASphere sphere) to
-    by true e h = subst (IsOut (ASphere sphere)) (same_some _ to h) (out e)
-    by false e h = absurd (cc)
+    out_where_pushed true e h = subst (IsOut (ASphere sphere)) (same_some _ to h) (out e)
+    out_where_pushed false e h = absurd (cc)
 
 -- ---- the way through all of them
 
@@ -198,7 +195,7 @@ ok_some P Q (Some x) f h = f x h
 way_comes : (limit : ℤ) (ss : List Solid) (way : Way) → AllByRecursion CanPush ss
     → IfSome (way_through limit (map shape_by ss) way) (λ v. Comes (last_solid ss way.at) way.at v.at)
 way_comes limit [] way all = refl
-way_comes limit (s ∷ ss) way all = by (shape_by s way.at) refl (λ next. way_comes limit ss next all.1)
+way_comes limit (s ∷ ss) way all = comes_past (shape_by s way.at) refl (λ next. way_comes limit ss next all.1)
   where
     inside : (to : Vec3) (b : Bool) → IsOut s to
         → ((next : Way) → IfSome (way_through limit (map shape_by ss) next) (λ v. Comes (last_solid ss next.at) next.at v.at))
@@ -210,12 +207,12 @@ way_comes limit (s ∷ ss) way all = by (shape_by s way.at) refl (λ next. way_c
         (way_through limit (map shape_by ss) (record { at = to; touched = true }))
         (λ v k. later_comes s (last_solid ss to) way.at to v.at out k) (rest (record { at = to; touched = true }))
 
-    by : (o : Option Vec3) → shape_by s way.at ≡ o
+    comes_past : (o : Option Vec3) → shape_by s way.at ≡ o
         → ((next : Way) → IfSome (way_through limit (map shape_by ss) next) (λ v. Comes (last_solid ss next.at) next.at v.at))
         → IfSome (elim (past limit way o) [ None ↦ None | Some next ↦ way_through limit (map shape_by ss) next ])
         (λ v. Comes (last_from s (last_solid ss) way.at o) way.at v.at)
-    by None e rest = rest way
-    by (Some to) e rest = inside to (is_within limit to) (solid-out s way.at to all.0 e) rest
+    comes_past None e rest = rest way
+    comes_past (Some to) e rest = inside to (is_within limit to) (solid-out s way.at to all.0 e) rest
 
 -- a particle and where the shape part leaves it
 pub record IsLeft (ss : List Solid) (p : Particle) (to : Vec3) : Type 0 where
@@ -225,19 +222,19 @@ pub record IsLeft (ss : List Solid) (p : Particle) (to : Vec3) : Type 0 where
 shaped_left : (limit : ℤ) (ss : List Solid) (p : Particle) → AllByRecursion CanPush ss
     → IfSome (shaped limit (map shape_by ss) p) (λ x. IsLeft ss p x.moved.particle.at)
 unfolding shaped
-shaped_left limit ss p all = by p.held refl
+shaped_left limit ss p all = left_if_held p.held refl
   where
     free : (o : Option Way) → p.held ≡ false → IfSome o (λ v. Comes (last_solid ss p.at) p.at v.at)
         → IfSome (option_map (shaped_by p) o) (λ x. IsLeft ss p x.moved.particle.at)
     free None e h = tt
     free (Some way) e h = record { free = λ k. h; held = λ k. absurd (false≢true (sym e ∙ k)) }
 
-    by : (held : Bool) → p.held ≡ held
+    left_if_held : (held : Bool) → p.held ≡ held
         → IfSome (if held then Some (still p) else option_map (shaped_by p)
         (way_through limit (map shape_by ss) (record { at = p.at; touched = false })))
         (λ x. IsLeft ss p x.moved.particle.at)
-    by true e = record { free = λ k. absurd (false≢true (sym k ∙ e)); held = λ k. refl }
-    by false e = free (way_through limit (map shape_by ss) (record { at = p.at; touched = false })) e
+    left_if_held true e = record { free = λ k. absurd (false≢true (sym k ∙ e)); held = λ k. refl }
+    left_if_held false e = free (way_through limit (map shape_by ss) (record { at = p.at; touched = false })) e
         (way_comes limit ss (record { at = p.at; touched = false }) all)
 
 -- ---- all particles
@@ -302,10 +299,10 @@ last-out w s t i solid sound e l free last =
 pub none-out : (w : World) (s t : Passing) (i : ℕ) → IsSound w → shape_part w s ≡ Ok t → i < length s.motion.particles
     → last_solid (solids_of w.shapes) (particle_at s.motion.particles i).at ≡ None
     → (particle_at t.motion.particles i).at ≡ (particle_at s.motion.particles i).at
-none-out w s t i sound e l none = by (particle_at s.motion.particles i).held refl (left_at w s t i sound e l)
+none-out w s t i sound e l none = held_or_left (particle_at s.motion.particles i).held refl (left_at w s t i sound e l)
   where
-    by : (held : Bool) → (particle_at s.motion.particles i).held ≡ held
+    held_or_left : (held : Bool) → (particle_at s.motion.particles i).held ≡ held
         → IsLeft (solids_of w.shapes) (particle_at s.motion.particles i) (particle_at t.motion.particles i).at
         → (particle_at t.motion.particles i).at ≡ (particle_at s.motion.particles i).at
-    by true h left = left.held h
-    by false h left = subst (λ o. Comes o (particle_at s.motion.particles i).at (particle_at t.motion.particles i).at) none (left.free h)
+    held_or_left true h left = left.held h
+    held_or_left false h left = subst (λ o. Comes o (particle_at s.motion.particles i).at (particle_at t.motion.particles i).at) none (left.free h)

@@ -168,10 +168,10 @@ about m r d v some apart h = record {
 by_tests : (limit : ℤ) (slack within : Bool) (s t : Shift) → (if slack then Slack else (if within then Moves t else Leaves)) ≡ Moves s
     → s ≡ t
 by_tests limit true within s t h = absurd (cc)
-by_tests limit false true s t h = sym (same t s h)
+by_tests limit false true s t h = sym (moves_agree t s h)
   where
-    same : (t s : Shift) → Moves t ≡ Moves s → t ≡ s
-    same t s e = cc
+    moves_agree : (t s : Shift) → Moves t ≡ Moves s → t ≡ s
+    moves_agree t s e = cc
 by_tests limit false false s t h = absurd (cc)
 
 moved_by : (limit : ℤ) (p q : End) (bond : Bond) (s : Shift) → correction_of limit p q bond ≡ Moves s → s ≡ shift_of p q bond

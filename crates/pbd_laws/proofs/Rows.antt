@@ -45,7 +45,7 @@ late_in_time = (tt, (tt, ((omega arith, omega arith), (tt, ((omega arith, omega 
 
 -- with two slots the input of turn 0 comes too late after turn 2, whose world took its slot
 too_late : AreInTime 2 [] (Plays [] ∷ Plays [] ∷ Plays [] ∷ Learns 0 [] ∷ []) → ⊥
-too_late h = let l = h.1.1.1.0.1 in omega (arith, l)
+too_late (_, (_, (_, ((_, late), _)))) = omega (arith, late)
 
 -- ---- two commands that name one particle
 

@@ -13,11 +13,11 @@ use Rattle.pbd_laws.specs.Scenes.{HasPartsOf}
 -- what a function makes of items, where it doesn't see what is changed of them
 of_alike : {A B : Type 0} (change : A → A) (f : A → B) (xs ys : List A) → ((x : A) → f (change x) ≡ f x) → map change xs ≡ map change ys
     → map f ys ≡ map f xs
-of_alike {A} {B} change f xs ys h e = sym (same ys) ∙ sym (ap (map f) e) ∙ same xs
+of_alike {A} {B} change f xs ys h e = sym (change_unseen ys) ∙ sym (ap (map f) e) ∙ change_unseen xs
   where
-    same : (zs : List A) → map f (map change zs) ≡ map f zs
-    same [] = refl
-    same (z ∷ zs) = ap (λ b. b ∷ map f (map change zs)) (h z) ∙ ap (λ (bs : List B). f z ∷ bs) (same zs)
+    change_unseen : (zs : List A) → map f (map change zs) ≡ map f zs
+    change_unseen [] = refl
+    change_unseen (z ∷ zs) = ap (λ b. b ∷ map f (map change zs)) (h z) ∙ ap (λ (bs : List B). f z ∷ bs) (change_unseen zs)
 
 pub session-keeps : (parts : Parts) (cs : List Command) → IsTrue (is_valid parts) → HasPartsOf parts (last_world (opened parts) cs)
 session-keeps parts cs valid =

@@ -20,6 +20,7 @@ use Rattle.pbd_world.specs.Momentum.{momentum}
 use Rattle.pbd_world.specs.World.{World, live_count}
 use Rattle.pbd_world.specs.Text.{line, place_line, header_line, frame_text, sum_line, ledger_text, phase_name, refusal_words, refusal_line}
 use Rattle.pbd_world.specs.Text.{text}
+use Rattle.std.proofs.lemmas.List.{append-nil}
 
 -- no byte is a newline
 abbrev pub is_plain : List ℕ → Bool
@@ -38,30 +39,30 @@ pub record IsLine (bs : List ℕ) : Type 0 where
 -- ---- numbers
 
 glyph_plain : (d : ℕ) → not (digit_glyph false d == 10) ≡ true
-glyph_plain d = by (nat_lt d 10)
+glyph_plain d = never_newline (nat_lt d 10)
   where
-    by : (b : Bool) → not ((if b then 48 + d else 87 + d) == 10) ≡ true
-    by true = grind (arith, nat_tests)
-    by false = grind (arith, nat_tests)
+    never_newline : (b : Bool) → not ((if b then 48 + d else 87 + d) == 10) ≡ true
+    never_newline true = grind (arith, nat_tests)
+    never_newline false = grind (arith, nat_tests)
 
 glyph_own : (d : ℕ) → d < 10 → not (digit_glyph false d == 115) ≡ true
-glyph_own d small = by (nat_lt d 10) refl
+glyph_own d small = never_s (nat_lt d 10) refl
   where
-    by : (b : Bool) → nat_lt d 10 ≡ b → not ((if b then 48 + d else 87 + d) == 115) ≡ true
-    by true e = grind (arith, nat_tests)
-    by false e = absurd (grind (arith, nat_tests))
+    never_s : (b : Bool) → nat_lt d 10 ≡ b → not ((if b then 48 + d else 87 + d) == 115) ≡ true
+    never_s true e = grind (arith, nat_tests)
+    never_s false e = absurd (grind (arith, nat_tests))
 
 digits_lines : (k n : ℕ) (acc : List ℕ) → IsLine acc → IsLine (digits_onto k 10 false n acc)
 digits_lines zero n acc h = h
-digits_lines (suc k) n acc h = by (n / 10 == 0) (digits_lines k (n / 10) (digit_glyph false (n % 10) ∷ acc) next)
+digits_lines (suc k) n acc h = line_more (n / 10 == 0) (digits_lines k (n / 10) (digit_glyph false (n % 10) ∷ acc) next)
   where
     next : IsLine (digit_glyph false (n % 10) ∷ acc)
     next = record { plain = and_from _ _ (glyph_plain (n % 10)) h.plain; own = glyph_own (n % 10) (omega arith) }
 
-    by : (b : Bool) → IsLine (digits_onto k 10 false (n / 10) (digit_glyph false (n % 10) ∷ acc))
+    line_more : (b : Bool) → IsLine (digits_onto k 10 false (n / 10) (digit_glyph false (n % 10) ∷ acc))
         → IsLine (if b then digit_glyph false (n % 10) ∷ acc else digits_onto k 10 false (n / 10) (digit_glyph false (n % 10) ∷ acc))
-    by true rest = next
-    by false rest = rest
+    line_more true rest = next
+    line_more false rest = rest
 
 pub decimal-line : (n : ℕ) → IsLine (decimal n)
 unfolding digits
@@ -120,12 +121,8 @@ one_line : (word : List ℕ) (words : List (List ℕ)) → is_own word ≡ true 
 one_line word words h all = record {
   lines = joined (word ∷ words) ∷ [];
   are = (words_line word words h all, tt);
-  is = line_is (word ∷ words) ∙ sym (append_none (joined (word ∷ words) ++ 10 ∷ []));
+  is = line_is (word ∷ words) ∙ sym (append-nil (joined (word ∷ words) ++ 10 ∷ []));
 }
-  where
-    append_none : (xs : List ℕ) → xs ++ [] ≡ xs
-    append_none [] = refl
-    append_none (x ∷ xs) = ap (λ (ys : List ℕ). x ∷ ys) (append_none xs)
 
 all_both : (xs ys : List (List ℕ)) → AllByRecursion IsLine xs → AllByRecursion IsLine ys → AllByRecursion IsLine (xs ++ ys)
 all_both [] ys h k = k

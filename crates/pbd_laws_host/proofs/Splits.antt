@@ -20,6 +20,7 @@ use Rattle.pbd_host.specs.Hosted.{without_first_line, own_text}
 use Rattle.pbd_host.specs.Tagged.{IsAmong}
 use Rattle.pbd_laws_host.proofs.Lines.{is_plain, is_own, IsLine, decimal-line, both_plain, IsText, text-is, refused-text}
 use Rattle.pbd_host.proofs.ApartLaws.{one_dropped}
+use Rattle.std.proofs.lemmas.List.{append-nil}
 
 -- ---- splitting
 
@@ -111,13 +112,9 @@ text_goes t mine bs rest h =
 
 -- ---- the line `session T`
 
-append_none : (xs : List ℕ) → xs ++ [] ≡ xs
-append_none [] = refl
-append_none (x ∷ xs) = ap (λ (ys : List ℕ). x ∷ ys) (append_none xs)
-
 head_goes : (t : ℕ) (h xs rest : List ℕ) → is_plain xs ≡ true
     → split t (Head h) (xs ++ 10 ∷ rest) ≡ split t (Begin (bytes_eq (h ++ xs) (tag_of t))) rest
-head_goes t h [] rest e = ap (λ (g : List ℕ). split t (Begin (bytes_eq g (tag_of t))) rest) (sym (append_none h))
+head_goes t h [] rest e = ap (λ (g : List ℕ). split t (Begin (bytes_eq g (tag_of t))) rest) (sym (append-nil h))
 head_goes t h (x ∷ xs) rest e =
     let parts = and_parts (not (x == 10)) (is_plain xs) e in
     ap (λ b. split t (if b then Begin (bytes_eq h (tag_of t)) else Head (h ++ x ∷ [])) (xs ++ 10 ∷ rest)) (not-true (x == 10) parts.0)
@@ -142,20 +139,20 @@ read_back s t hs ht e =
     sym (decimal_is_IsNumeral_wide s (omega (arith, hs))).1 ∙ ap (digits_value 10) e ∙ (decimal_is_IsNumeral_wide t (omega (arith, ht))).1
 
 tag_same : (s t : ℕ) → s ≤ 16 → t ≤ 16 → bytes_eq (tag_of s) (tag_of t) ≡ (s == t)
-tag_same s t hs ht = by (bytes_eq (tag_of s) (tag_of t)) (s == t) refl refl
+tag_same s t hs ht = tests_agree (bytes_eq (tag_of s) (tag_of t)) (s == t) refl refl
   where
-    by : (a b : Bool) → bytes_eq (tag_of s) (tag_of t) ≡ a → (s == t) ≡ b → a ≡ b
-    by true true e f = refl
-    by false false e f = refl
-    by true false e f = absurd (false≢true (sym f ∙ eq-eqb s t (read_back s t hs ht (ap (drop 8) (equal_bytes (tag_of s) (tag_of t) e)))))
-    by false true e f = absurd (false≢true (sym e ∙ same_bytes (tag_of s) (tag_of t) (ap tag_of (eqb-true s t f))))
+    tests_agree : (a b : Bool) → bytes_eq (tag_of s) (tag_of t) ≡ a → (s == t) ≡ b → a ≡ b
+    tests_agree true true e f = refl
+    tests_agree false false e f = refl
+    tests_agree true false e f = absurd (false≢true (sym f ∙ eq-eqb s t (read_back s t hs ht (ap (drop 8) (equal_bytes (tag_of s) (tag_of t) e)))))
+    tests_agree false true e f = absurd (false≢true (sym e ∙ same_bytes (tag_of s) (tag_of t) (ap tag_of (eqb-true s t f))))
 
 -- ---- a bad tag
 
 dash_free : (k n : ℕ) (acc : List ℕ) → list_all (λ b. not (b == 45)) acc ≡ true
     → list_all (λ b. not (b == 45)) (digits_onto k 10 false n acc) ≡ true
 dash_free zero n acc h = h
-dash_free (suc k) n acc h = by (n / 10 == 0) (dash_free k (n / 10) (digit_glyph false (n % 10) ∷ acc) next_free)
+dash_free (suc k) n acc h = free_more (n / 10 == 0) (dash_free k (n / 10) (digit_glyph false (n % 10) ∷ acc) next_free)
   where
     glyph : (d : ℕ) (b : Bool) → not ((if b then 48 + d else 87 + d) == 45) ≡ true
     glyph d true = grind (arith, nat_tests)
@@ -164,22 +161,22 @@ dash_free (suc k) n acc h = by (n / 10 == 0) (dash_free k (n / 10) (digit_glyph 
     next_free : list_all (λ b. not (b == 45)) (digit_glyph false (n % 10) ∷ acc) ≡ true
     next_free = and_from _ _ (glyph (n % 10) (nat_lt (n % 10) 10)) h
 
-    by : (b : Bool) → list_all (λ b. not (b == 45)) (digits_onto k 10 false (n / 10) (digit_glyph false (n % 10) ∷ acc)) ≡ true
+    free_more : (b : Bool) → list_all (λ b. not (b == 45)) (digits_onto k 10 false (n / 10) (digit_glyph false (n % 10) ∷ acc)) ≡ true
         → list_all (λ b. not (b == 45))
         (if b then digit_glyph false (n % 10) ∷ acc else digits_onto k 10 false (n / 10) (digit_glyph false (n % 10) ∷ acc)) ≡ true
-    by true rest = next_free
-    by false rest = rest
+    free_more true rest = next_free
+    free_more false rest = rest
 
 no_dash : (t : ℕ) → codes "-" ≡ decimal t → ⊥
 unfolding digits
 no_dash t e = false≢true (ap (list_all (λ b. not (b == 45))) e ∙ dash_free 64 t [] refl)
 
 dash_tag : (t : ℕ) → bytes_eq (codes "session -") (tag_of t) ≡ false
-dash_tag t = by (bytes_eq (codes "session -") (tag_of t)) refl
+dash_tag t = never_session (bytes_eq (codes "session -") (tag_of t)) refl
   where
-    by : (b : Bool) → bytes_eq (codes "session -") (tag_of t) ≡ b → b ≡ false
-    by false e = refl
-    by true e = absurd (no_dash t (ap (drop 8) (equal_bytes (codes "session -") (tag_of t) e)))
+    never_session : (b : Bool) → bytes_eq (codes "session -") (tag_of t) ≡ b → b ≡ false
+    never_session false e = refl
+    never_session true e = absurd (no_dash t (ap (drop 8) (equal_bytes (codes "session -") (tag_of t) e)))
 
 bad_goes : (t : ℕ) (mine : Bool) (rest : List ℕ) → split t (Begin mine) (bad_tag_text ++ rest) ≡ split t (Begin false) rest
 unfolding bad_tag_text
@@ -218,18 +215,18 @@ hosted_split t n ws (To s c ∷ rs) mine few among all =
     ap (split t (Begin mine)) (append_assoc (session_line s) body rest)
     ∙ tag_goes t s mine (body ++ rest)
     ∙ ap (λ b. split t (Begin b) (body ++ rest)) (tag_same s t (omega (arith, all.0, few)) (omega (arith, among, few)))
-    ∙ by (s == t) (hosted_split t n vs rs true few among all.1) (hosted_split t n vs rs false few among all.1)
+    ∙ split_after (s == t) (hosted_split t n vs rs true few among all.1) (hosted_split t n vs rs false few among all.1)
   where
-    by : (b : Bool) → split t (Begin true) (hosted_text (worlds_after ws (To s c)) rs) ≡ own_text t (worlds_after ws (To s c)) rs
+    split_after : (b : Bool) → split t (Begin true) (hosted_text (worlds_after ws (To s c)) rs) ≡ own_text t (worlds_after ws (To s c)) rs
         → split t (Begin false) (hosted_text (worlds_after ws (To s c)) rs) ≡ own_text t (worlds_after ws (To s c)) rs
         → split t (Begin b) (command_text (world_at ws s) c ++ hosted_text (worlds_after ws (To s c)) rs)
         ≡ (if b then without_first_line (session_line s ++ command_text (world_at ws s) c) else [])
         ++ own_text t (worlds_after ws (To s c)) rs
-    by true mine_is other_is =
+    split_after true mine_is other_is =
         let body = command_text (world_at ws s) c in
         text_goes t true body (hosted_text (worlds_after ws (To s c)) rs) (text-is _ _) ∙ ap (λ (bs : List ℕ). body ++ bs) mine_is
         ∙ ap (λ (bs : List ℕ). bs ++ own_text t (worlds_after ws (To s c)) rs) (sym (tag_dropped s body))
-    by false mine_is other_is = text_goes t false (command_text (world_at ws s) c) (hosted_text (worlds_after ws (To s c)) rs) (text-is _ _)
+    split_after false mine_is other_is = text_goes t false (command_text (world_at ws s) c) (hosted_text (worlds_after ws (To s c)) rs) (text-is _ _)
         ∙ other_is
 
 pub splits-alike : (t n : ℕ) (ws vs : List World) (rs qs : List Request) → n ≤ 16 → t < n → All (IsAmong n) rs → All (IsAmong n) qs

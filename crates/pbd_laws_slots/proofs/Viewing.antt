@@ -79,12 +79,12 @@ at_beyond (x ∷ xs) (suc k) d h = at_beyond xs k d (omega (arith, h))
 
 pub marks-save : (m : Marked) (k : ℕ) → length m.marks ≡ 8 → of_marks (marked_after m (Mark k)) ≡ acted (of_marks m) (Save k)
 unfolding marked_meaning
-marks-save m k eight = by (nat_lt 7 k) refl
+marks-save m k eight = saved_by_test (nat_lt 7 k) refl
   where
-    by : (b : Bool) → nat_lt 7 k ≡ b → of_marks (with_marks m (if b then Err BadMark else Ok (set m.marks k (Some m.world)))).0
+    saved_by_test : (b : Bool) → nat_lt 7 k ≡ b → of_marks (with_marks m (if b then Err BadMark else Ok (set m.marks k (Some m.world)))).0
         ≡ acted (of_marks m) (Save k)
-    by true e = λ i. record { world = m.world; slots = sym (set_beyond m.marks k (Some m.world) (omega (arith, eight, ltb-true 7 k e))) i }
-    by false e = refl
+    saved_by_test true e = λ i. record { world = m.world; slots = sym (set_beyond m.marks k (Some m.world) (omega (arith, eight, ltb-true 7 k e))) i }
+    saved_by_test false e = refl
 
 rewound_by : (m : Marked) (o : Option World)
     → of_marks (with_world m (kept o)).0 ≡ (let x : Machine = record { world = kept_or m.world o; slots = m.marks } in x)
@@ -93,15 +93,15 @@ rewound_by m (Some w) = refl
 
 pub marks-restore : (m : Marked) (k : ℕ) → length m.marks ≡ 8 → of_marks (marked_after m (Rewind k)) ≡ acted (of_marks m) (Restore k)
 unfolding marked_meaning
-marks-restore m k eight = by (nat_lt 7 k) refl
+marks-restore m k eight = restored_by_test (nat_lt 7 k) refl
   where
-    by : (b : Bool) → nat_lt 7 k ≡ b → of_marks (with_world m (if b then Err BadMark else kept (mark_at m.marks k))).0
+    restored_by_test : (b : Bool) → nat_lt 7 k ≡ b → of_marks (with_world m (if b then Err BadMark else kept (mark_at m.marks k))).0
         ≡ acted (of_marks m) (Restore k)
-    by true e = λ i. record {
+    restored_by_test true e = λ i. record {
       world = kept_or m.world (sym (at_beyond m.marks k None (omega (arith, eight, ltb-true 7 k e))) i);
       slots = m.marks;
     }
-    by false e = rewound_by m (mark_at m.marks k)
+    restored_by_test false e = rewound_by m (mark_at m.marks k)
 
 marks_act : (m : Marked) (act : Act) → length m.marks ≡ 8 → of_marks (marked_after m (mark_command act)) ≡ acted (of_marks m) act
 marks_act m (Play command) eight = marks-play m command

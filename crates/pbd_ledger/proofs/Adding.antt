@@ -20,12 +20,12 @@ abbrev pub with_part : Sum → Particle → Sum
 with_part s p = cond (is_free p) (sum_plus s (velocity p)) s
 
 from_cons : (s : Sum) (p : Particle) (ps : List Particle) → momentum_from (with_part s p) ps ≡ momentum_from s (p ∷ ps)
-from_cons s p ps = by (is_free p)
+from_cons s p ps = summed_if_free (is_free p)
   where
-    by : (b : Bool) → momentum_from (cond b (sum_plus s (velocity p)) s) ps
+    summed_if_free : (b : Bool) → momentum_from (cond b (sum_plus s (velocity p)) s) ps
         ≡ fold sum_plus s (map velocity (cond b (p ∷ filter is_free ps) (filter is_free ps)))
-    by true = refl
-    by false = refl
+    summed_if_free true = refl
+    summed_if_free false = refl
 
 pub part_more : (ps : List Particle) (i : ℕ) (s t : Sum) → i < length ps → t ≡ with_part s (particle_at ps i)
     → momentum_from t (drop (i + 1) ps) ≡ momentum_from s (drop i ps)

@@ -16,6 +16,26 @@ use Rattle.pbd_log.specs.Entries.{number_bytes, signed_bytes, vector_bytes, axes
 use Rattle.pbd_log.specs.Reading.{◌>>=◌, number_at, signed_at, byte_at, vector_at, axes_at}
 use Rattle.pbd_log.proofs.Numbers.{IsBytes-drop, IsBytes-take, IsBytes-rest, number_back}
 
+-- how long fields are
+pub length-number : (n x : ℕ) → length (number_bytes n x) ≡ n
+unfolding number_bytes
+length-number n x = length-bytes_high_first n x
+
+pub length-signed : (z : ℤ) → length (signed_bytes z) ≡ 8
+unfolding signed_bytes
+length-signed z = length-number 8 (cast_unsigned w64 z)
+
+pub length-vector : (v : Vec3) → length (vector_bytes v) ≡ 24
+unfolding vector_bytes
+length-vector v = omega (
+  arith,
+  length-append (signed_bytes v.x ++ signed_bytes v.y) (signed_bytes v.z),
+  length-append (signed_bytes v.x) (signed_bytes v.y),
+  length-signed v.x,
+  length-signed v.y,
+  length-signed v.z,
+)
+
 -- what a reader took from the front
 pub record Takes (bytes text rest : List ℕ) : Type 0 where
   pub parts : bytes ≡ text ++ rest
@@ -181,12 +201,15 @@ axes_again [] rest fits = absurd (omega (arith, fits.0))
 axes_again (x ∷ []) rest fits = absurd (omega (arith, fits.0))
 axes_again (x ∷ y ∷ []) rest fits = absurd (omega (arith, fits.0))
 axes_again (x ∷ y ∷ z ∷ []) rest fits =
+    let each = fits.1 in
+    let behind_first = each.1 in
+    let behind_second = behind_first.1 in
     rw (
       three x y z,
       regroup3 (signed_bytes x) (signed_bytes y) (signed_bytes z) rest,
-      signed_again x (signed_bytes y ++ (signed_bytes z ++ rest)) fits.1.0,
-      signed_again y (signed_bytes z ++ rest) fits.1.1.0,
-      signed_again z rest fits.1.1.1.0,
+      signed_again x (signed_bytes y ++ (signed_bytes z ++ rest)) each.0,
+      signed_again y (signed_bytes z ++ rest) behind_first.0,
+      signed_again z rest behind_second.0,
     ) refl
 axes_again (x ∷ y ∷ z ∷ w ∷ zs) rest fits = absurd (omega (arith, fits.0))
 

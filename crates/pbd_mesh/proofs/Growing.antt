@@ -1,8 +1,8 @@
 -- Lists that grow by f 0, f 1, ..
-use Rattle.std.proofs.Common.{◌≡◌, ◌∙◌, ap, sym, refl, ℕ, zero, suc, ◌+◌, ◌≤◌, List, [], ◌∷◌, ◌++◌, length, take, append_assoc, append-nil}
+use Rattle.std.proofs.Common.{◌≡◌, ◌∙◌, ap, sym, refl, ℕ, suc, ◌+◌, ◌≤◌, List, ◌++◌, length, take, append_assoc, append-nil}
 use Rattle.std.proofs.Common.{arith}
 use Rattle.std.proofs.Math.Seq.{take-append_seam}
-use Rattle.std.proofs.lemmas.List.{length-append}
+use Rattle.std.proofs.lemmas.List.{length-append, take-take}
 use Rattle.pbd_mesh.specs.Numbered.{concatenated}
 
 pub concatenated_next : {A : Type 0} (n : ℕ) (f : ℕ → List A) → concatenated (n + 1) f ≡ concatenated n f ++ f n
@@ -28,13 +28,7 @@ grown_all old now n i f low high so_far = let e : n ≡ i = omega arith in rw e 
 pub front_of_append : {A : Type 0} (old now more : List A) → now ≡ old ++ more → take (length old) now ≡ old
 front_of_append old now more is = rw is (take-append_seam old more)
 
-take_less : {A : Type 0} (m n : ℕ) (xs : List A) → m ≤ n → take m (take n xs) ≡ take m xs
-take_less zero n xs le = refl
-take_less (suc m) zero xs le = absurd (omega arith)
-take_less (suc m) (suc n) [] le = refl
-take_less (suc m) (suc n) (x ∷ xs) le = ap (λ ys. x ∷ ys) (take_less m n xs (omega arith))
-
 pub prefix_then : {A : Type 0} (old mid now more : List A) → mid ≡ old ++ more → take (length mid) now ≡ mid → take (length old) now ≡ old
 prefix_then old mid now more grown kept =
     let shorter : length old ≤ length mid = rw grown (omega (arith, length-append old more)) in
-    sym (take_less (length old) (length mid) now shorter) ∙ ap (take (length old)) kept ∙ front_of_append old mid more grown
+    sym (take-take (length old) (length mid) now shorter) ∙ ap (take (length old)) kept ∙ front_of_append old mid more grown

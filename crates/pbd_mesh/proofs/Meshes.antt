@@ -3,7 +3,7 @@ use Rattle.std.proofs.Common.{◌≡◌, sym, refl, ℕ, ◌+◌, ◌-◌, ◌*�
 use Rattle.std.proofs.Common.{pos, ◌≤ℤ◌, ◌*ℤ◌, ◌-ℤ◌, unsigned_abs, List, [], ◌∷◌, ◌++◌, length, arith}
 use Rattle.std.specs.Prelude.{IsTrue, filter, nat_le, nat_lt, not}
 use Rattle.std.proofs.lemmas.Int.{ints}
-use Rattle.std.proofs.lemmas.Bool.{and_parts, cases_Bool, cases_lt, ne_eqb, or_from, lt-ltb, le-leb}
+use Rattle.std.proofs.lemmas.Bool.{and_parts, cases_Bool, cases_lt, ne_eqb, or_from, lt-ltb, le-leb, and_from}
 use Rattle.std.proofs.lemmas.Bool.Decides.{nat_tests}
 use Rattle.std.proofs.lemmas.List.{length-append}
 use Rattle.pbd_num.specs.declared.Vec3.{Vec3}
@@ -261,9 +261,6 @@ kind_lattice s base kind total span wide cells = record {
 
 -- ---- what is valid
 
-both_true : (x y : Bool) → x ≡ true → y ≡ true → (x && y) ≡ true
-both_true x y h k = rw (h, k) refl
-
 differ_test : (m n : ℕ) → (m ≡ n → ⊥) → not (m == n) ≡ true
 differ_test m n h = rw (ne_eqb m n h) refl
 
@@ -297,16 +294,16 @@ link_valid : (limit : ℤ) (base end : ℕ) (l : Link) → l.live ≡ true → b
     → IsTrue (is_between (pos 0) (pos 4 *ℤ limit) l.rest) → IsTrue (is_between (pos 0) (pos 4 *ℤ limit) l.tear) → nat_le l.k 256 ≡ true
     → IsTrue (is_mesh_link limit base end l)
 link_valid limit base end l live a b under below_end differ rest tear k =
-    both_true (l.live && nat_le base l.a && nat_le base l.b) (is_valid_link limit end l)
-    (both_true (l.live && nat_le base l.a) (nat_le base l.b) (both_true l.live (nat_le base l.a) live (le-leb base l.a a))
+    and_from (l.live && nat_le base l.a && nat_le base l.b) (is_valid_link limit end l)
+    (and_from (l.live && nat_le base l.a) (nat_le base l.b) (and_from l.live (nat_le base l.a) live (le-leb base l.a a))
     (le-leb base l.b b))
-    (both_true (nat_lt l.a end && nat_lt l.b end && not (l.a == l.b) && is_between (pos 0) (pos 4 *ℤ limit) l.rest
+    (and_from (nat_lt l.a end && nat_lt l.b end && not (l.a == l.b) && is_between (pos 0) (pos 4 *ℤ limit) l.rest
     && is_between (pos 0) (pos 4 *ℤ limit) l.tear) (nat_le l.k 256)
-    (both_true (nat_lt l.a end && nat_lt l.b end && not (l.a == l.b) && is_between (pos 0) (pos 4 *ℤ limit) l.rest)
+    (and_from (nat_lt l.a end && nat_lt l.b end && not (l.a == l.b) && is_between (pos 0) (pos 4 *ℤ limit) l.rest)
     (is_between (pos 0) (pos 4 *ℤ limit) l.tear)
-    (both_true (nat_lt l.a end && nat_lt l.b end && not (l.a == l.b)) (is_between (pos 0) (pos 4 *ℤ limit) l.rest)
-    (both_true (nat_lt l.a end && nat_lt l.b end) (not (l.a == l.b))
-    (both_true (nat_lt l.a end) (nat_lt l.b end) (lt-ltb l.a end under) (lt-ltb l.b end below_end))
+    (and_from (nat_lt l.a end && nat_lt l.b end && not (l.a == l.b)) (is_between (pos 0) (pos 4 *ℤ limit) l.rest)
+    (and_from (nat_lt l.a end && nat_lt l.b end) (not (l.a == l.b))
+    (and_from (nat_lt l.a end) (nat_lt l.b end) (lt-ltb l.a end under) (lt-ltb l.b end below_end))
     (differ_test l.a l.b differ))
     rest)
     tear)

@@ -21,7 +21,7 @@ pub(crate) struct Taken {
 
 /// What the axes of a bond are moved by: its guesses, what its length is too great by, and the factor that counts.
 #[derive(Clone, Copy)]
-pub(crate) struct Pull {
+pub(crate) struct GuessedPull {
     pub(crate) shift: u32,
     pub(crate) ratio: i32,
     pub(crate) error: i32,
@@ -46,7 +46,7 @@ struct Tested {
 }
 
 #[inline(always)]
-pub(crate) fn pull_of(guess: Guess, rest: i32, factor: i32, slack: i32) -> Pull
+pub(crate) fn pull_of(guess: Guess, rest: i32, factor: i32, slack: i32) -> GuessedPull
     requires rest_low { pos 0 ≤ℤ rest }
     requires rest_high { rest ≤ℤ pos 16383 }
     requires factor { unsigned_abs factor ≤ 512 }
@@ -63,7 +63,7 @@ pub(crate) fn pull_of(guess: Guess, rest: i32, factor: i32, slack: i32) -> Pull
 {
     let length = low15(guess.length) as i32;
     let error = length - rest;
-    Pull {
+    GuessedPull {
         shift: (guess.up & 30) / 2 + 15,
         ratio: guess.ratio.clamp(-65_535, 65_535),
         error,
@@ -206,7 +206,7 @@ fn flag_of(right: bool) -> i32
     if right { 0 } else { -1 }
 }
 
-impl Pull {
+impl GuessedPull {
     #[inline(always)]
     fn share(self, axis: i32) -> Share
         requires axis { unsigned_abs axis ≤ 32768 }

@@ -89,12 +89,19 @@ opposite_within v n h = record {
   z = omega (arith, size-neg v.z, h.z);
 }
 
-plus_zero : (a : ℤ) → a +ℤ pos 0 ≡ a
+pub plus_zero : (a : ℤ) → a +ℤ pos 0 ≡ a
 plus_zero a = omega (arith, ints)
 
 -- the vector 0 adds nothing
 pub plus_nothing : (v : Vec3) → plus v zero_vector ≡ v
 plus_nothing v = λ i. record { x = plus_zero v.x i; y = plus_zero v.y i; z = plus_zero v.z i }
+
+less_itself : (a : ℤ) → a -ℤ a ≡ pos 0
+less_itself a = omega (arith, ints)
+
+-- a vector less itself
+pub minus_itself : (v : Vec3) → minus v v ≡ zero_vector
+minus_itself v = λ i. record { x = less_itself v.x i; y = less_itself v.y i; z = less_itself v.z i }
 
 zero_minus : (a : ℤ) → pos 0 -ℤ a ≡ neg_ℤ a
 zero_minus a = omega (arith, ints)

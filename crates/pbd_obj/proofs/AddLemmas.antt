@@ -111,24 +111,24 @@ counts_found base vertices links i counts l d end so_far lt same from is =
     let are : drop i links ≡ l ∷ drop (i + 1) links = drop_more links i d lt ∙ ap (λ m. m ∷ drop (i + 1) links) (sym same) in
     sym (some_first (take i links) (drop i links) (drop (i + 1) links) l end are here) ∙ so_far.left
 
+pub not_full : (n : ℕ) → (n == 32) ≡ false → n ≢ 32
+not_full n t e = false≢true (sym t ∙ eq-eqb n 32 e)
+
 -- neither end is full
 ends_free : (base : ℕ) (counts : List ℕ) (l : Link) → None ≡ counted_end base counts l
     → (slice_index counts (l.a - base) ≢ 32) × (slice_index counts (l.b - base) ≢ 32)
 ends_free base counts l is = first_case (slice_index counts (l.a - base) == 32) refl is
   where
-    differ : (n : ℕ) → (n == 32) ≡ false → n ≢ 32
-    differ n t e = false≢true (sym t ∙ eq-eqb n 32 e)
-
     second_case : (c : Bool) → (slice_index counts (l.b - base) == 32) ≡ c → None ≡ cond c (Some l.b) None
         → slice_index counts (l.b - base) ≢ 32
     second_case true t e = cc
-    second_case false t e = differ (slice_index counts (l.b - base)) t
+    second_case false t e = not_full (slice_index counts (l.b - base)) t
 
     first_case : (c : Bool) → (slice_index counts (l.a - base) == 32) ≡ c
         → None ≡ cond c (Some l.a) (cond (slice_index counts (l.b - base) == 32) (Some l.b) None)
         → (slice_index counts (l.a - base) ≢ 32) × (slice_index counts (l.b - base) ≢ 32)
     first_case true t e = cc
-    first_case false t e = (differ (slice_index counts (l.a - base)) t, second_case (slice_index counts (l.b - base) == 32) refl e)
+    first_case false t e = (not_full (slice_index counts (l.a - base)) t, second_case (slice_index counts (l.b - base) == 32) refl e)
 
 cases_link : (base : ℕ) (links : List Link) (l : Link) (old now : List ℕ) (v : ℕ) → IsLinkFrom base (length old) l
     → HoldsCounts base links old → CountsLink base l old now → v < length old → slice_index now v ≡ links_at (links ++ l ∷ []) (base + v)

@@ -5,7 +5,7 @@ use Rattle.std.proofs.Common.{nat_le, nat_lt, ℤ, pos, ◌*ℤ◌, ◌≤ℤ◌
 use Rattle.std.specs.Prelude.{◌==◌, cond, IsTrue}
 use Rattle.std.specs.List.{list_all, list_any, AllByRecursion}
 use Rattle.std.specs.Option.{option_or}
-use Rattle.std.proofs.lemmas.Bool.{and_parts, and_from, cases_eq, eq-eqb, eqb-true, ne_eqb, false≢true, le-leb, leb-true, lt-ltb, ltb-true}
+use Rattle.std.proofs.lemmas.Bool.{and_parts, and_from, cases_eq, eq-eqb, eqb-true, ne_eqb, le-leb, leb-true, lt-ltb, ltb-true}
 use Rattle.std.proofs.lemmas.Bool.{ltb-false, or_cases, or_parts}
 use Rattle.std.proofs.lemmas.Int.{ints}
 use Rattle.std.proofs.lemmas.List.{get_or_append_left, length-map}
@@ -34,7 +34,7 @@ use Rattle.pbd_obj.specs.MeshLinks.{at_rest, bend_links, each_once, first_overfu
 use Rattle.pbd_obj.specs.MeshLinks.{place_at, unless_overfull, with_all, with_mesh, with_mesh_as}
 use Rattle.pbd_obj.specs.Nets.{FitsNet}
 use Rattle.pbd_obj.specs.Settings.{are_link_settings, are_settings, are_some_settings, stiff_settings}
-use Rattle.pbd_obj.proofs.AddLemmas.{links_push, Has, Made, mesh_fits, mesh_links_made}
+use Rattle.pbd_obj.proofs.AddLemmas.{links_push, Has, Made, mesh_fits, mesh_links_made, not_full}
 
 -- ---- lists
 
@@ -104,17 +104,14 @@ mesh_once t mesh base = once_once [] (kind_links t mesh base Stretch ++ (kind_li
 end_none : (before : List Link) (l : Link) → overfull_end before l ≡ None → (links_at before l.a ≢ 32) × (links_at before l.b ≢ 32)
 end_none before l is = first_case (links_at before l.a == 32) refl is
   where
-    differ : (n : ℕ) → (n == 32) ≡ false → n ≢ 32
-    differ n t = λ e. false≢true (sym t ∙ eq-eqb n 32 e)
-
     second_case : (c : Bool) → (links_at before l.b == 32) ≡ c → cond c (Some l.b) None ≡ None → links_at before l.b ≢ 32
     second_case true t e = cc
-    second_case false t e = differ (links_at before l.b) t
+    second_case false t e = not_full (links_at before l.b) t
 
     first_case : (c : Bool) → (links_at before l.a == 32) ≡ c → cond c (Some l.a) (cond (links_at before l.b == 32) (Some l.b) None) ≡ None
         → (links_at before l.a ≢ 32) × (links_at before l.b ≢ 32)
     first_case true t e = cc
-    first_case false t e = (differ (links_at before l.a) t, second_case (links_at before l.b == 32) refl e)
+    first_case false t e = (not_full (links_at before l.a) t, second_case (links_at before l.b == 32) refl e)
 
 or_none : (o p : Option ℕ) → option_or o p ≡ None → (o ≡ None) × (p ≡ None)
 or_none None p is = (refl, is)

@@ -19,7 +19,7 @@ use Rattle.pbd_num.specs.Vectors.{is_within}
 use Rattle.pbd_num.proofs.Ranges.{within_facts}
 use Rattle.pbd_world.specs.Text.{line}
 use Rattle.pbd_script.specs.Lines.{is_blank, is_digit, words, count}
-use Rattle.pbd_script.proofs.NumberLemmas.{count_decimal}
+use Rattle.pbd_script.proofs.NumberLemmas.{count_decimal, not_minus}
 use Rattle.pbd_obj.specs.declared.mesh.ObjMesh.{ObjMesh}
 use Rattle.pbd_obj.specs.Decimals.{is_minus, short_count}
 use Rattle.pbd_obj.specs.Meshes.{cut, faces, IsFace, IsMesh}
@@ -200,11 +200,8 @@ whole_word w all =
 no_sign : (w : List ℕ) → list_all is_digit w ≡ true → (is_minus w ≡ false) × (without_minus w ≡ w)
 no_sign [] all = (refl, refl)
 no_sign (x ∷ w) all =
-    let minus : (x == 45) ≡ false = no_minus x (and_parts (is_digit x) (list_all is_digit w) all).0 in
+    let minus : (x == 45) ≡ false = not_minus x (and_parts (is_digit x) (list_all is_digit w) all).0 in
     (minus, rw minus refl)
-  where
-    no_minus : (x : ℕ) → is_digit x ≡ true → (x == 45) ≡ false
-    no_minus x is = grind (arith, nat_tests)
 
 kth_back : (n c : ℕ) → c < n → kth_vertex n false (c + 1) ≡ Some c
 kth_back n c lt =

@@ -1,11 +1,11 @@
 -- What holds of each mesh that is read.
 use Rattle.std.proofs.Common.{◌≡◌, ◌∙◌, sym, ap, refl, ℕ, suc, ◌+◌, ◌-◌, ◌*◌, ◌<◌, ◌≤◌, Bool, true, false, not, ◌&&◌, List, [], ◌∷◌, ◌++◌}
-use Rattle.std.proofs.Common.{length, take, drop, Option, Some, None, Result, Ok, Err, nat_le, arith, length-append, pos, filter}
+use Rattle.std.proofs.Common.{length, take, drop, Option, Some, None, Result, Ok, Err, nat_le, arith, length-append, pos}
 use Rattle.std.specs.Prelude.{◌==◌, cond, All, IsTrue, IfOk, OnOk, sum, bytes_eq, codes, slice_index_or}
 use Rattle.std.specs.List.{enumerate_from, slice_split, before_first, AllByRecursion}
 use Rattle.std.specs.Option.{option_map, option_and_then}
 use Rattle.std.specs.Str.Lines.{strip_carriage_return}
-use Rattle.std.proofs.lemmas.Bool.{and_parts}
+use Rattle.std.proofs.lemmas.Bool.{and_parts, leb-true}
 use Rattle.std.proofs.lemmas.Bool.Decides.{nat_tests}
 use Rattle.std.proofs.lemmas.List.{length-take, length-drop, take-append-le, drop-append-le, take_all}
 use Rattle.std.proofs.lemmas.List.Elements.{All-push, All-weaker, All-nil, All-cons}
@@ -23,22 +23,15 @@ use Rattle.pbd_obj.specs.Meshes.{cut, faces, IsFace, IsMesh}
 use Rattle.pbd_obj.specs.Reading.{corner, corners, kth_vertex, face, is_face, vertex, with_vertex, with_face, with_words, with_line}
 use Rattle.pbd_obj.specs.Reading.{no_mesh, read, is_slash, without_minus, PushesFace}
 use Rattle.pbd_obj.proofs.FaceLemmas.{once, face_none, face_some, face_size}
+use Rattle.pbd_world.proofs.CountingOn.{filter_length}
 
 -- ---- how many words and vertices
-
-filter_few : {X : Type 0} (test : X → Bool) (xs : List X) → length (filter test xs) ≤ length xs
-filter_few test [] = omega arith
-filter_few test (x ∷ xs) = few_case (test x) x (filter test xs) xs (filter_few test xs)
-  where
-    few_case : {X : Type 0} (b : Bool) (x : X) (ys xs : List X) → length ys ≤ length xs → length (cond b (x ∷ ys) ys) ≤ suc (length xs)
-    few_case true x ys xs le = omega (arith, le)
-    few_case false x ys xs le = omega (arith, le)
 
 -- a line has at most one word more than bytes
 pub words_few : (line : List ℕ) → length (words line) ≤ length line + 1
 words_few line = omega (
   arith,
-  filter_few (λ word. not (length word == 0)) (slice_split is_blank line),
+  filter_length (λ word. not (length word == 0)) (slice_split is_blank line),
   length-slice_split is_blank line,
   count_by-le-length is_blank line,
 )
@@ -119,18 +112,12 @@ line_is n line stripped mesh ws is are = ap (λ xs. with_words n mesh xs) (ap wo
 kth_below : (n k c : ℕ) (m : Bool) → kth_vertex n m k ≡ Some c → c < n
 kth_below n k c m is = by_test (nat_le 1 k && nat_le k n) m refl is
   where
-    low : (k : ℕ) → nat_le 1 k ≡ true → 1 ≤ k
-    low k t = grind (arith, nat_tests)
-
-    high : (k n : ℕ) → nat_le k n ≡ true → k ≤ n
-    high k n t = grind (arith, nat_tests)
-
     some_is : (a b : ℕ) → ◌≡◌ {A = Option ℕ} (Some a) (Some b) → a ≡ b
     some_is a b is = cc
 
     by_test : (b m : Bool) → (nat_le 1 k && nat_le k n) ≡ b → cond b (Some (cond m (n - k) (k - 1))) None ≡ Some c → c < n
-    by_test true true t is = let p = and_parts (nat_le 1 k) (nat_le k n) t in omega (arith, low k p.0, high k n p.1, some_is (n - k) c is)
-    by_test true false t is = let p = and_parts (nat_le 1 k) (nat_le k n) t in omega (arith, low k p.0, high k n p.1, some_is (k - 1) c is)
+    by_test true true t is = let p = and_parts (nat_le 1 k) (nat_le k n) t in omega (arith, leb-true 1 k p.0, leb-true k n p.1, some_is (n - k) c is)
+    by_test true false t is = let p = and_parts (nat_le 1 k) (nat_le k n) t in omega (arith, leb-true 1 k p.0, leb-true k n p.1, some_is (k - 1) c is)
     by_test false m t is = cc
 
 corner_below : (n : ℕ) (word : List ℕ) (c : ℕ) → corner n word ≡ Some c → c < n

@@ -10,7 +10,7 @@ use Rattle.std.specs.Ordering.{is_eq, nat_cmp, ordering_then}
 use Rattle.std.specs.BTreeMap.{is_at}
 use Rattle.std.specs.BTreeSet.{BTreeSet, contains}
 use Rattle.std.proofs.lemmas.Bool.{and_parts, and_from, or_cases, or_left, or_right, cases_eq, cases_order, eqb-true, eq-eqb, ne_eqb}
-use Rattle.std.proofs.lemmas.Bool.{lt-ltb, le-ltb, false≢true}
+use Rattle.std.proofs.lemmas.Bool.{lt-ltb, le-ltb}
 use Rattle.std.proofs.lemmas.List.{drop_more}
 use Rattle.std.proofs.lemmas.List.Elements.{All-head, All-tail}
 use Rattle.std.proofs.lemmas.List.Folds.{list_any-append}
@@ -28,13 +28,9 @@ use Rattle.pbd_obj.specs.declared.settings.LinkSettings.{LinkSettings}
 use Rattle.pbd_obj.specs.declared.settings.MeshSettings.{MeshSettings}
 use Rattle.pbd_obj.specs.MeshLinks.{bend_links, each_once, face_links, kind_links, link, mesh_links, pairs_linked, ring, side}
 use Rattle.pbd_obj.specs.Nets.{Adds, HoldsJoined, HoldsPairs, IsFullAt, IsStopped, Names, ordered, pair_cmp}
+use Rattle.pbd_world.proofs.GreedyLemmas.{same_truth}
 
 -- ---- pairs of numbers
-
-same_tests : (b c : Bool) → (b ≡ true → c ≡ true) → (c ≡ true → b ≡ true) → b ≡ c
-same_tests true c f g = sym (f refl)
-same_tests false true f g = absurd (false≢true (g refl))
-same_tests false false f g = refl
 
 pub cmp_same : (x u : ℕ) → is_eq (nat_cmp x u) ≡ (x == u)
 cmp_same x u = elim (cases_order x u) [
@@ -58,7 +54,7 @@ pair_same x y u v = then_same (nat_cmp x u) (nat_cmp y v)
 ordered_same : (a b c d : ℕ) → is_at (pair_cmp (ordered a b)) (ordered c d) ≡ (c == a && d == b || c == b && d == a)
 unfolding ordered
 ordered_same a b c d = pair_same (min a b) (max a b) (min c d) (max c d)
-    ∙ same_tests (min a b == min c d && max a b == max c d) (c == a && d == b || c == b && d == a)
+    ∙ same_truth (min a b == min c d && max a b == max c d) (c == a && d == b || c == b && d == a)
     (λ t. let p = and_parts (min a b == min c d) (max a b == max c d) t in
     let low = eqb-true (min a b) (min c d) p.0 in
     let high = eqb-true (max a b) (max c d) p.1 in

@@ -5,7 +5,7 @@ use Rattle.std.proofs.Common.{length-append, ℤ, pos, negsuc, unsigned_abs}
 use Rattle.std.specs.Prelude.{◌==◌, ◌-ℤ◌, cond}
 use Rattle.std.specs.List.{list_all, position_or_len, before_first, after_first}
 use Rattle.std.proofs.lemmas.Nat.{div-mul-add}
-use Rattle.std.proofs.lemmas.Bool.{and_parts, and_from, cases_eq, ne_eqb, le-leb}
+use Rattle.std.proofs.lemmas.Bool.{and_parts, and_from, cases_eq, ne_eqb, le-leb, leb-true}
 use Rattle.std.proofs.lemmas.Bool.Decides.{nat_tests}
 use Rattle.std.proofs.lemmas.Int.{ints}
 use Rattle.std.proofs.lemmas.Fmt.{length-decimal-le}
@@ -17,6 +17,7 @@ use Rattle.pbd_obj.specs.Decimals.{units_of, with_digits, without_sign}
 use Rattle.pbd_obj.specs.Sizes.{scaled_size}
 use Rattle.pbd_obj.specs.Writing.{coordinate, decimals, fraction}
 use Rattle.pbd_obj.proofs.Numbers.{signed_scaled, ten_pos, value-append}
+use Rattle.pbd_obj.proofs.WriteLemmas.{decimals_more}
 
 -- ---- a numeral
 
@@ -31,21 +32,18 @@ record Digits (most n : ℕ) (w : List ℕ) : Type 0 where
   pub digits : list_all is_digit w ≡ true
   pub says : value w ≡ n
 
-low : (n : ℕ) → nat_le 1 n ≡ true → 1 ≤ n
-low n t = grind (arith, nat_tests)
-
 pub numeral_parts : (n : ℕ) → n < 10 ^ 18 → (1 ≤ length (numeral n)) × (list_all is_digit (numeral n) ≡ true)
 numeral_parts n small =
     let parts = count_parts (is_count (numeral n)) (numeral n) n refl (count_decimal n small) in
     let sizes = and_parts (nat_le 1 (length (numeral n)) && nat_le (length (numeral n)) 18) (list_all is_digit (numeral n)) parts.0 in
-    (low (length (numeral n)) (and_parts (nat_le 1 (length (numeral n))) (nat_le (length (numeral n)) 18) sizes.0).0, sizes.1)
+    (leb-true 1 (length (numeral n)) (and_parts (nat_le 1 (length (numeral n))) (nat_le (length (numeral n)) 18) sizes.0).0, sizes.1)
 
 numeral_digits : (n : ℕ) → n < 10 ^ 4 → Digits 4 n (numeral n)
 numeral_digits n small =
     let parts = count_parts (is_count (numeral n)) (numeral n) n refl (count_decimal n (omega (arith, small))) in
     let sizes = and_parts (nat_le 1 (length (numeral n)) && nat_le (length (numeral n)) 18) (list_all is_digit (numeral n)) parts.0 in
     record {
-      some = low (length (numeral n)) (and_parts (nat_le 1 (length (numeral n))) (nat_le (length (numeral n)) 18) sizes.0).0;
+      some = leb-true 1 (length (numeral n)) (and_parts (nat_le 1 (length (numeral n))) (nat_le (length (numeral n)) 18) sizes.0).0;
       few = length-decimal-le 4 n (omega arith) small (omega (arith, small));
       digits = sizes.1;
       says = parts.1;
@@ -56,9 +54,6 @@ numeral_digits n small =
 tenth_small : (r : ℕ) → r < 65536 → r * 10 / 65536 < 10
 tenth_small r small = omega (arith, small)
 
-decimals_some : (k r : ℕ) → (r ≡ 0 → ⊥) → decimals (suc k) r ≡ (48 + r * 10 / 65536) ∷ decimals k (r * 10 % 65536)
-decimals_some k r some = rw (ne_eqb r 0 some) refl
-
 decimals_none : (k r : ℕ) → r ≡ 0 → decimals k r ≡ []
 decimals_none zero r is = refl
 decimals_none (suc k) r is = rw is refl
@@ -67,7 +62,7 @@ pub decimals_digits : (k r : ℕ) → r < 65536 → list_all is_digit (decimals 
 decimals_digits zero r small = refl
 decimals_digits (suc k) r small = elim (cases_eq r 0) [
   | inl e ↦ rw (decimals_none (suc k) r e) refl
-  | inr n ↦ rw (decimals_some k r n) (and_from (is_digit (48 + r * 10 / 65536)) (list_all is_digit (decimals k (r * 10 % 65536)))
+  | inr n ↦ rw (decimals_more k r n) (and_from (is_digit (48 + r * 10 / 65536)) (list_all is_digit (decimals k (r * 10 % 65536)))
       (digit_is (r * 10 / 65536) (tenth_small r small)) (decimals_digits k (r * 10 % 65536) (omega arith)))
 ]
 
@@ -75,7 +70,7 @@ decimals_few : (k r : ℕ) → length (decimals k r) ≤ k
 decimals_few zero r = omega arith
 decimals_few (suc k) r = elim (cases_eq r 0) [
   | inl e ↦ rw (decimals_none (suc k) r e) (omega arith)
-  | inr n ↦ rw (decimals_some k r n) (let rest = decimals_few k (r * 10 % 65536) in omega (arith, rest))
+  | inr n ↦ rw (decimals_more k r n) (let rest = decimals_few k (r * 10 % 65536) in omega (arith, rest))
 ]
 
 exact_zero : (q r : ℕ) → r * 2 ^ 0 ≡ q * 65536 → r < 65536 → r ≡ 0
@@ -107,7 +102,7 @@ decimals_exact (suc k) q r is small = elim (cases_eq r 0) [
       let front : 48 + d - 48 ≡ d = omega arith in
       let all : ((48 + d - 48) * 10 ^ length tail + value tail) * 65536
       ≡ r * 10 ^ suc (length tail) = rw (front, ten) (omega (arith, more, times)) in
-      rw (decimals_some k r n) all)
+      rw (decimals_more k r n) all)
 ]
 
 -- ---- where a byte stands
@@ -218,7 +213,7 @@ back_units minus n w f is =
 
 tail_is : (f : List ℕ) (r : ℕ) → (r ≡ 0 → ⊥) → f ≡ decimals 16 r → tail_of f ≡ 46 ∷ decimals 16 r
 tail_is f r some is =
-    let more : decimals 16 r ≡ (48 + r * 10 / 65536) ∷ decimals 15 (r * 10 % 65536) = decimals_some 15 r some in
+    let more : decimals 16 r ≡ (48 + r * 10 / 65536) ∷ decimals 15 (r * 10 % 65536) = decimals_more 15 r some in
     rw (is, more) refl
 
 pub fraction_is : (r : ℕ) → fraction r ≡ tail_of (decimals 16 r)

@@ -31,7 +31,7 @@ pub record DecimalsSoFar (n : ℕ) (start now : List ℕ) (rest count : ℕ) : T
 pub decimals_begin : (n : ℕ) (start : List ℕ) → n < 65536 → DecimalsSoFar n start start n 0
 decimals_begin n start small = record { bytes = refl; size = omega arith; small = small }
 
-decimals_more : (k rest : ℕ) → (rest ≡ 0 → ⊥) → decimals (suc k) rest ≡ (48 + rest * 10 / 65536) ∷ decimals k (rest * 10 % 65536)
+pub decimals_more : (k rest : ℕ) → (rest ≡ 0 → ⊥) → decimals (suc k) rest ≡ (48 + rest * 10 / 65536) ∷ decimals k (rest * 10 % 65536)
 decimals_more k rest some = rw (ne_eqb rest 0 some) refl
 
 decimals_zero : (k : ℕ) → decimals k 0 ≡ []

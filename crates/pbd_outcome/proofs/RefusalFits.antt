@@ -242,11 +242,11 @@ plain_fits refusal plain = tt
 pub tests_end : {A : Type 0} (P : Refusal → Type 0) (tests : List (Bool × Refusal)) (x : A)
     → AllByRecursion (λ (t : Bool × Refusal). P t.1) tests → IfErr (unless tests x) P
 tests_end P [] x all = tt
-tests_end P (test ∷ tests) x all = by test.0 (tests_end P tests x all.1)
+tests_end P (test ∷ tests) x all = end_by_test test.0 (tests_end P tests x all.1)
   where
-    by : (b : Bool) → IfErr (unless tests x) P → IfErr (cond b (Err test.1) (unless tests x)) P
-    by true rest = all.0
-    by false rest = rest
+    end_by_test : (b : Bool) → IfErr (unless tests x) P → IfErr (cond b (Err test.1) (unless tests x)) P
+    end_by_test true rest = all.0
+    end_by_test false rest = rest
 
 -- ---- every reply
 

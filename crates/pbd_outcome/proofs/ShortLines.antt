@@ -19,8 +19,8 @@ use Rattle.pbd_world.specs.declared.command.Operands.TheVariants.{Nothing, Numbe
 use Rattle.pbd_world.specs.Verbs.{TableRow, row, verb_named, verb_and_operands, command_with}
 use Rattle.pbd_world.proofs.VerbLaws.{rows_pass, word_is, parted}
 use Rattle.pbd_script.specs.Lines.{pieces, words, is_blank, count, number, only_count}
-use Rattle.pbd_script.specs.Commands.{nothing, vector_of, only_vector, number_and_vector, operands_in, form, words_command, line_command, commands}
-use Rattle.pbd_script.proofs.AsciiLemmas.{chained}
+use Rattle.pbd_script.specs.Commands.{nothing, only_vector, number_and_vector, operands_in, form, words_command, line_command, commands}
+use Rattle.pbd_script.proofs.AsciiLemmas.{chained, all_three}
 
 -- ---- the elements of lists, and one more for each list
 
@@ -90,13 +90,6 @@ counted (word ∷ next ∷ more) n is = cc
 pub mapped : {A B : Type 0} (f : A → B) (o : Option A) (y : B) → option_map f o ≡ Some y → (x : A) × (o ≡ Some x) × (f x ≡ y)
 mapped f (Some x) y is = (x, refl, cc)
 mapped f None y is = cc
-
-all_three : (x y z : Option ℤ) (v : Vec3) → vector_of x y z ≡ Some v
-    → ((a : ℤ) × (x ≡ Some a)) × ((b : ℤ) × (y ≡ Some b)) × ((c : ℤ) × (z ≡ Some c))
-all_three (Some a) (Some b) (Some c) v is = ((a, refl), (b, refl), (c, refl))
-all_three None y z v is = cc
-all_three (Some a) None z v is = cc
-all_three (Some a) (Some b) None v is = cc
 
 three_axes : (operands : List (List ℕ)) (v : Vec3) → only_vector operands ≡ Some v → 6 ≤ room operands
 three_axes [] v is = cc

@@ -1,12 +1,10 @@
 -- The entries of a session take at most as many bytes as their commands allow, and the sums of each step besides.
 use Rattle.std.proofs.Common.{◌≡◌, ◌≢◌, refl, sym, subst, ℕ, zero, suc, ◌+◌, ◌*◌, ◌≤◌, Bool, true, false, cond, List, [], ◌∷◌, ◌++◌, length}
 use Rattle.std.proofs.Common.{Some, None, Result, Ok, Err, ℤ, arith}
-use Rattle.std.specs.Prelude.{IfOk, IfErr, IsTrue, ◌==◌, ◌&&◌, not, nat_le, unsigned_abs}
+use Rattle.std.specs.Prelude.{IfOk, IfErr, IsTrue, ◌==◌, ◌&&◌, nat_le, unsigned_abs}
 use Rattle.std.specs.List.{flat_map, AllByRecursion}
 use Rattle.std.proofs.lemmas.List.{length-append}
-use Rattle.std.proofs.lemmas.Bool.{ltb-false, leb-true, and_parts, false≢true}
-use Rattle.std.specs.Int.{bytes_high_first}
-use Rattle.pbd_num.specs.declared.Vec3.{Vec3}
+use Rattle.std.proofs.lemmas.Bool.{ltb-false, leb-true, and_parts, false≢true, not-false}
 use Rattle.pbd_world.specs.declared.command.Command.{Command}
 use Rattle.pbd_world.specs.declared.command.Command.TheVariants.{Step, Bad}
 use Rattle.pbd_world.specs.declared.command.Operands.{Operands}
@@ -36,33 +34,17 @@ use Rattle.pbd_session.specs.Recording.{entries_of, log_bytes}
 use Rattle.pbd_outcome.proofs.RefusalFits.{is_plain, tests_plain, all_plain, tests_end}
 use Rattle.pbd_outcome.proofs.ShortLines.{bytes_with, most_bytes, all_bytes}
 use Rattle.pbd_world.proofs.StepsLead.{step_counts}
+use Rattle.pbd_log.proofs.Fields.{length-number, length-signed, length-vector}
 
 -- ---- the fields of an entry
-
-places : (n x : ℕ) → length (bytes_high_first n x) ≡ n
-places zero x = refl
-places (suc n) x = omega (arith, places n x)
-
-number_length : (n x : ℕ) → length (number_bytes n x) ≡ n
-unfolding number_bytes
-number_length n x = places n x
-
-signed_length : (z : ℤ) → length (signed_bytes z) ≡ 8
-unfolding signed_bytes
-signed_length z = number_length 8 _
 
 two : {X : Type 0} (xs ys : List X) (m n : ℕ) → length xs ≡ m → length ys ≡ n → length (xs ++ ys) ≡ m + n
 two xs ys m n is was = omega (arith, length-append xs ys)
 
-vector_length : (v : Vec3) → length (vector_bytes v) ≡ 24
-unfolding vector_bytes
-vector_length v = two (signed_bytes v.x ++ signed_bytes v.y) (signed_bytes v.z) 16 8
-    (two (signed_bytes v.x) (signed_bytes v.y) 8 8 (signed_length v.x) (signed_length v.y)) (signed_length v.z)
-
 axes_length : (zs : List ℤ) → length (axes_bytes zs) ≡ length zs * 8
 unfolding axes_bytes
 axes_length [] = refl
-axes_length (z ∷ zs) = let rest = axes_length zs in omega (arith, length-append (signed_bytes z) (axes_bytes zs), signed_length z, rest)
+axes_length (z ∷ zs) = let rest = axes_length zs in omega (arith, length-append (signed_bytes z) (axes_bytes zs), length-signed z, rest)
 
 sums_length : (w : World) → length (sums_bytes (frame_sums w)) ≡ 64
 unfolding sums_bytes
@@ -70,8 +52,8 @@ sums_length w =
     let s = frame_sums w in
     let counts : length (number_bytes 8 s.steps ++ number_bytes 4 s.live ++ number_bytes 4 s.contacts)
     ≡ 16 = two (number_bytes 8 s.steps ++ number_bytes 4 s.live) (number_bytes 4 s.contacts) 12 4
-    (two (number_bytes 8 s.steps) (number_bytes 4 s.live) 8 4 (number_length 8 s.steps) (number_length 4 s.live))
-    (number_length 4 s.contacts) in
+    (two (number_bytes 8 s.steps) (number_bytes 4 s.live) 8 4 (length-number 8 s.steps) (length-number 4 s.live))
+    (length-number 4 s.contacts) in
     two (number_bytes 8 s.steps ++ number_bytes 4 s.live ++ number_bytes 4 s.contacts ++ axes_bytes s.at) (axes_bytes s.before) 40 24
     (two _ (axes_bytes s.at) 16 24 counts (axes_length s.at)) (axes_length s.before)
 
@@ -84,7 +66,7 @@ either_short false false step element phase number is was = omega arith
 answer_short : (a : Answer) → length (answer_bytes a) ≤ 14
 unfolding answer_bytes
 answer_short a = either_short (a.number == 11) (a.number == 12) (number_bytes 8 a.step) (number_bytes 4 a.element) a.phase a.number
-    (number_length 8 a.step) (number_length 4 a.element)
+    (length-number 8 a.step) (length-number 4 a.element)
 
 -- ---- an entry without sums
 
@@ -103,10 +85,10 @@ bare c a = record { command = c; answer = a; sums = None }
 -- there is room for one byte more behind a command
 operands_room : (o : Operands) → length (operand_bytes o) + 2 ≤ bytes_with o
 operands_room Nothing = omega arith
-operands_room (Number n) = omega (arith, number_length 8 n)
-operands_room (Vector v) = omega (arith, vector_length v)
+operands_room (Number n) = omega (arith, length-number 8 n)
+operands_room (Vector v) = omega (arith, length-vector v)
 operands_room (NumberAndVector n v) =
-    omega (arith, length-append (number_bytes 8 n) (vector_bytes v), number_length 8 n, vector_length v)
+    omega (arith, length-append (number_bytes 8 n) (vector_bytes v), length-number 8 n, length-vector v)
 
 command_room : (c : Command) → length (command_bytes c) + 1 ≤ most_bytes c
 unfolding command_bytes
@@ -114,7 +96,7 @@ command_room c = omega (arith, operands_room (verb_and_operands c).1)
 
 step_length : (n : ℕ) → length (command_bytes (Step n)) ≡ 9
 unfolding command_bytes
-step_length n = omega (arith, number_length 8 n)
+step_length n = omega (arith, length-number 8 n)
 
 done_length : length (answer_bytes (plain 0)) ≡ 1
 unfolding answer_bytes
@@ -134,14 +116,10 @@ pub record Rises (w v : World) : Type 0 where
   pub rises : w.steps + 1 ≤ v.steps
   pub within : v.steps ≤ 1000000
 
-holds : (test : Bool) → not test ≡ false → test ≡ true
-holds true is = refl
-holds false is = cc
-
 run_rises : (w : World) (n : ℕ) → IfOk (outcome w (Step n)) (Rises w)
 run_rises w n =
     unless-goes_on (Rises w) (refusals w (Step n)) w (steps_of n) (λ es.
-    let both = and_parts (nat_le 1 n) (nat_le n 100000) (holds (nat_le 1 n && nat_le n 100000) es.0) in
+    let both = and_parts (nat_le 1 n) (nat_le n 100000) (not-false (nat_le 1 n && nat_le n 100000) es.0) in
     let some = leb-true 1 n both.0 in
     let few = ltb-false 1000000 (w.steps + n) es.1.0 in
     ok_weaker (λ v. v.steps ≡ w.steps + n) (Rises w) (steps_of n w)
@@ -213,13 +191,13 @@ answer_byte r brief = done_length
 
 deed_refuses : (w : World) (c : Command) (d : Deed) → IsStill d
     → IfErr (unless_refused w (refusals w c) d) (λ r. IsTrue (is_plain r))
-deed_refuses w c d still = by d still (all_plain (λ r. IsTrue (is_plain r)) (λ r is. is) (refusals w c) (tests_plain w c))
+deed_refuses w c d still = refuses_by_deed d still (all_plain (λ r. IsTrue (is_plain r)) (λ r is. is) (refusals w c) (tests_plain w c))
   where
-    by : (d : Deed) → IsStill d → AllByRecursion (λ (t : Bool × Refusal). IsTrue (is_plain t.1)) (refusals w c)
+    refuses_by_deed : (d : Deed) → IsStill d → AllByRecursion (λ (t : Bool × Refusal). IsTrue (is_plain t.1)) (refusals w c)
         → IfErr (unless_refused w (refusals w c) d) (λ r. IsTrue (is_plain r))
-    by (Steps n) still all = absurd (still n refl)
-    by (Edits edit) still all = tests_end (λ r. IsTrue (is_plain r)) (refusals w c) (edited w edit) all
-    by (Answers told) still all = tests_end (λ r. IsTrue (is_plain r)) (refusals w c) w all
+    refuses_by_deed (Steps n) still all = absurd (still n refl)
+    refuses_by_deed (Edits edit) still all = tests_end (λ r. IsTrue (is_plain r)) (refusals w c) (edited w edit) all
+    refuses_by_deed (Answers told) still all = tests_end (λ r. IsTrue (is_plain r)) (refusals w c) w all
 
 answer_brief : (c : Command) → IsBrief (answer (deed c))
 answer_brief Bad = refl
@@ -227,11 +205,11 @@ answer_brief c = tt
 
 reply_brief : (w : World) (c : Command) → IsStill (deed c) → IsBrief (reply w c)
 unfolding meaning
-reply_brief w c still = by (outcome w c) (deed_refuses w c (deed c) still)
+reply_brief w c still = brief_by_outcome (outcome w c) (deed_refuses w c (deed c) still)
   where
-    by : (r : Result World Refusal) → IfErr r (λ r. IsTrue (is_plain r)) → IsBrief (done_or_refused w (answer (deed c)) r).1
-    by (Ok v) brief = answer_brief c
-    by (Err refusal) brief = brief
+    brief_by_outcome : (r : Result World Refusal) → IfErr r (λ r. IsTrue (is_plain r)) → IsBrief (done_or_refused w (answer (deed c)) r).1
+    brief_by_outcome (Ok v) brief = answer_brief c
+    brief_by_outcome (Err refusal) brief = brief
 
 still_fits : (w v : World) (c : Command) (r : Reply) → v.steps ≡ w.steps → IsBrief r → FitsIn w v c (bare c (answer_of r))
 still_fits w v c r same brief = record {
@@ -252,12 +230,12 @@ only_steps (Step m) n is = cc
 only_steps c n is = absurd (cc)
 
 entry_fits : (w : World) (c : Command) → FitsIn w (after w c) c (entry_of (entry w c))
-entry_fits w c = by (deed c) refl
+entry_fits w c = fits_by_deed (deed c) refl
   where
-    by : (d : Deed) → deed c ≡ d → FitsIn w (after w c) c (entry_of (entry w c))
-    by (Steps n) is = subst (λ d. FitsIn w (after w d) d (entry_of (entry w d))) (sym (only_steps c n is)) (steps_fit w n)
-    by (Edits edit) is = bare_fits w c (λ n steps. absurd (cc))
-    by (Answers told) is = bare_fits w c (λ n steps. absurd (cc))
+    fits_by_deed : (d : Deed) → deed c ≡ d → FitsIn w (after w c) c (entry_of (entry w c))
+    fits_by_deed (Steps n) is = subst (λ d. FitsIn w (after w d) d (entry_of (entry w d))) (sym (only_steps c n is)) (steps_fit w n)
+    fits_by_deed (Edits edit) is = bare_fits w c (λ n steps. absurd (cc))
+    fits_by_deed (Answers told) is = bare_fits w c (λ n steps. absurd (cc))
 
 -- ---- all entries
 
@@ -276,13 +254,13 @@ unfolding header_bytes opening_bytes
 header_length limit size = omega (
   arith,
   length-append (opening_bytes 2 limit) (number_bytes 4 size),
-  number_length 4 size,
-  number_length 8 (unsigned_abs limit),
+  length-number 4 size,
+  length-number 8 (unsigned_abs limit),
 )
 
 end_length : (count : ℕ) → length (end_bytes count) ≡ 9
 unfolding end_bytes
-end_length count = omega (arith, number_length 8 count)
+end_length count = omega (arith, length-number 8 count)
 
 pub log_length : (limit : ℤ) (scene : List ℕ) (entries : List Entry)
     → length (log_bytes limit scene entries) ≡ 29 + length scene + length (flat_map entry_bytes entries)

@@ -48,23 +48,23 @@ module _ (limit : ℤ) (n : ℕ) (bonds : Bonds) (xs : List ℕ) (k : ℕ) (fits
 
 whole_blocks : (q l : ℕ) → 0 < l → blocks_of (q * l) l ≡ q
 whole_blocks zero l h = div-eq_of_lt (omega arith)
-whole_blocks (suc q) l h = ap (λ (x : ℕ). x / l) (same q l h) ∙ add-div_right (q * l + l - 1) h ∙ more (whole_blocks q l h) where
-  same : (q l : ℕ) → 0 < l → suc q * l + l - 1 ≡ q * l + l - 1 + l
-  same q l h = omega arith
+whole_blocks (suc q) l h = ap (λ (x : ℕ). x / l) (one_block_more q l h) ∙ add-div_right (q * l + l - 1) h ∙ more (whole_blocks q l h) where
+  one_block_more : (q l : ℕ) → 0 < l → suc q * l + l - 1 ≡ q * l + l - 1 + l
+  one_block_more q l h = omega arith
 
   more : (q * l + l - 1) / l ≡ q → (q * l + l - 1) / l + 1 ≡ suc q
   more e = omega (arith, e)
 
 after_blocks : (q m l : ℕ) → 0 < l → blocks_of (m + q * l) l ≡ blocks_of m l + q
-after_blocks zero m l h = ap (λ (x : ℕ). blocks_of x l) (none m l) ∙ sym (same (blocks_of m l)) where
+after_blocks zero m l h = ap (λ (x : ℕ). blocks_of x l) (none m l) ∙ sym (plus_none (blocks_of m l)) where
   none : (x y : ℕ) → x + 0 * y ≡ x
   none x y = omega arith
 
-  same : (x : ℕ) → x + 0 ≡ x
-  same x = omega arith
-after_blocks (suc q) m l h = ap (λ (x : ℕ). x / l) (same q m l h) ∙ add-div_right (m + q * l + l - 1) h ∙ more (after_blocks q m l h) where
-  same : (q m l : ℕ) → 0 < l → m + suc q * l + l - 1 ≡ m + q * l + l - 1 + l
-  same q m l h = omega arith
+  plus_none : (x : ℕ) → x + 0 ≡ x
+  plus_none x = omega arith
+after_blocks (suc q) m l h = ap (λ (x : ℕ). x / l) (one_block_more q m l h) ∙ add-div_right (m + q * l + l - 1) h ∙ more (after_blocks q m l h) where
+  one_block_more : (q m l : ℕ) → 0 < l → m + suc q * l + l - 1 ≡ m + q * l + l - 1 + l
+  one_block_more q m l h = omega arith
 
   more : (m + q * l + l - 1) / l ≡ blocks_of m l + q → (m + q * l + l - 1) / l + 1 ≡ blocks_of m l + suc q
   more e = omega (arith, e)

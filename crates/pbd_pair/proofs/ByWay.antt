@@ -1,11 +1,10 @@
 -- A bond's correction, from the moves of its ends.
-use Rattle.std.proofs.Common.{◌≡◌, ℤ, pos, ◌+ℤ◌, ◌&&◌, Bool, true, false, not, cond, refl, ap, sym, ◌∙◌, arith}
-use Rattle.std.proofs.lemmas.Int.{ints}
+use Rattle.std.proofs.Common.{◌≡◌, ℤ, ◌&&◌, Bool, true, false, not, cond, refl, ap, sym, ◌∙◌}
 use Rattle.std.proofs.lemmas.Bool.{false≢true}
 use Rattle.pbd_num.specs.declared.Vec3.{Vec3}
 use Rattle.pbd_num.specs.Vectors.{plus, minus, zero_vector, is_within}
 use Rattle.pbd_num.specs.PairMove.{pair_moves}
-use Rattle.pbd_num.proofs.VectorSizes.{plus_nothing}
+use Rattle.pbd_num.proofs.VectorSizes.{plus_nothing, plus_zero}
 use Rattle.pbd_num.proofs.Ways.{pair_moves-along}
 use Rattle.pbd_world.specs.declared.parts.Particle.{Particle}
 use Rattle.pbd_world.specs.declared.bond.Bond.{Bond}
@@ -24,11 +23,8 @@ use Rattle.pbd_pair.proofs.Together.{first_by, second_by}
 
 -- ---- a move of nothing adds nothing
 
-nothing_more : (z : ℤ) → z +ℤ pos 0 ≡ z
-nothing_more z = omega (arith, ints)
-
 sum_nothing : (s : Sum) → sum_plus s zero_vector ≡ s
-sum_nothing s = λ i. record { x = nothing_more s.x i; y = nothing_more s.y i; z = nothing_more s.z i }
+sum_nothing s = λ i. record { x = plus_zero s.x i; y = plus_zero s.y i; z = plus_zero s.z i }
 
 pub added_nothing : (t : Ledger) (class : Class) → added t class zero_vector ≡ t
 added_nothing t classes.Gravity = ap (λ (s : Sum). record t { gravity = s }) (sum_nothing t.gravity)

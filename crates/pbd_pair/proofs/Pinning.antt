@@ -10,12 +10,10 @@ use Rattle.pbd_world.specs.declared.totals.Class.{Class}
 use Rattle.pbd_world.specs.declared.totals.Class.TheVariants as classes
 use Rattle.pbd_world.specs.Ledger.{Sum, Ledger, Entry, sum_plus, added, booked}
 use Rattle.pbd_pair.specs.Moves.{settled, moved_below}
-
-then_both : (s v w : ℤ) → (s +ℤ v) +ℤ w ≡ s +ℤ (v +ℤ w)
-then_both s v w = omega (arith, ints)
+use Rattle.std.proofs.Math.IntN.{+ℤ_assoc}
 
 sum_then : (s : Sum) (v w : Vec3) → sum_plus (sum_plus s v) w ≡ sum_plus s (plus v w)
-sum_then s v w = λ i. record { x = then_both s.x v.x w.x i; y = then_both s.y v.y w.y i; z = then_both s.z v.z w.z i }
+sum_then s v w = λ i. record { x = +ℤ_assoc s.x v.x w.x i; y = +ℤ_assoc s.y v.y w.y i; z = +ℤ_assoc s.z v.z w.z i }
 
 -- two moves of one class
 pub both_added : (t : Ledger) (class : Class) (v w : Vec3) → added (added t class v) class w ≡ added t class (plus v w)

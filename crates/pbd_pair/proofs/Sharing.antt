@@ -13,7 +13,7 @@ use Rattle.pbd_num.specs.PairMove.{share_of, shares}
 use Rattle.pbd_num.specs.Rows.{vector_of}
 use Rattle.pbd_num.specs.Vectors.{Within, zero_vector}
 use Rattle.pbd_num.proofs.Ends.{same_axes}
-use Rattle.pbd_num.proofs.Signs.{times_zero, rdiv_zero}
+use Rattle.pbd_num.proofs.Signs.{times_zero, rdiv_zero, turned_first}
 use Rattle.pbd_pair.specs.declared.uneven.Portion.{Portion}
 use Rattle.pbd_pair.specs.Shares.{IsPortion, IsPortionOf, IsShare, IsShareable}
 use Rattle.pbd_num.proofs.Sizes.{size-add, size-mul, size_at_most, pos_size}
@@ -86,19 +86,16 @@ other_share n w t q left m r share some less small is whole low lower same =
 
 -- ---- both signs
 
-turned_once : (a k : ℕ) → negsuc a *ℤ pos k ≡ neg_ℤ (pos (suc a * k))
-turned_once a k = omega (arith, ints)
-
 turned_twice : (n w : ℕ) → neg_ℤ (pos n) *ℤ pos w ≡ neg_ℤ (pos (n * w))
 turned_twice zero w = omega (arith, ints)
-turned_twice (suc n) w = turned_once n w
+turned_twice (suc n) w = turned_first n w
 
 -- the share of an axis is that of its size, with its sign
 pub signed_share : (axis share result : ℤ) (k w t : ℕ) → 0 < t → share ≡ rdiv (pos (unsigned_abs axis * k * w)) (pos (256 * t))
     → (pos 0 ≤ℤ axis → result ≡ share) → (axis <ℤ pos 0 → result ≡ neg_ℤ share) → result ≡ share_of axis (pos k) (pos w) t
 signed_share (pos a) share result k w t some is above below = above (omega (arith, ints)) ∙ is
 signed_share (negsuc a) share result k w t some is above below =
-    let turned : (negsuc a *ℤ pos k) *ℤ pos w ≡ neg_ℤ (pos (suc a * k * w)) = ap (λ z. z *ℤ pos w) (turned_once a k)
+    let turned : (negsuc a *ℤ pos k) *ℤ pos w ≡ neg_ℤ (pos (suc a * k * w)) = ap (λ z. z *ℤ pos w) (turned_first a k)
     ∙ turned_twice (suc a * k) w in
     below (omega (arith, ints)) ∙ ap neg_ℤ is ∙ sym (rdiv-neg (pos (suc a * k * w)) (pos (256 * t)) (omega (arith, some)))
     ∙ ap (λ z. rdiv z (pos (256 * t))) (sym turned)

@@ -19,7 +19,7 @@ use Rattle.pbd_mesh.specs.Cloth.{cloth_particles, cloth_place, cloth_fits, cloth
 use Rattle.pbd_mesh.specs.Cloth.{cloth_settings_fit, cloth_tears_fit, cloth_is_inside}
 use Rattle.pbd_outcome.specs.Generated.{all_set_off, after_three, is_hung, is_near, level_cloth, set_off, speed, vector, velocity_of}
 
-positive : pos 0 ≤ℤ pos (2 ^ 29)
+pub positive : pos 0 ≤ℤ pos (2 ^ 29)
 positive = omega (arith, ints)
 
 -- ---- the cloth fits

@@ -21,7 +21,7 @@ use Rattle.pbd_mesh.proofs.Every.{every_from_test, every_concatenated, every_mor
 use Rattle.pbd_mesh.proofs.Meshes.{cloth_mesh, cloth_size}
 use Rattle.pbd_outcome.specs.Generated.{after_three, all_set_off, generated, is_hung, level_cloth, middle_sphere, set_off, speed}
 use Rattle.pbd_outcome.specs.Generated.{velocity_of, words_of}
-use Rattle.pbd_run.proofs.GeneratedLaws.{close_place, level_fits, square_few}
+use Rattle.pbd_run.proofs.GeneratedLaws.{close_place, level_fits, positive, square_few}
 
 -- ---- velocities
 
@@ -42,9 +42,6 @@ is_calm p = is_within (pos (2 ^ 21)) p.at && nat_le 1 p.weight && nat_le p.weigh
 -- valid, and at rest where it is held
 abbrev is_settled : Particle → Bool
 is_settled p = is_valid_particle (pos (2 ^ 29)) p && (not p.held || is_at_rest p)
-
-high : pos 0 ≤ℤ pos (2 ^ 29)
-high = omega (arith, ints)
 
 middle : pos 0 ≤ℤ pos (2 ^ 21)
 middle = omega (arith, ints)
@@ -78,7 +75,7 @@ calm_facts p calm =
     let weights = and_parts (is_within (pos (2 ^ 21)) p.at && nat_le 1 p.weight) (nat_le p.weight 65535) calm in
     let place = and_parts (is_within (pos (2 ^ 21)) p.at) (nat_le 1 p.weight) weights.0 in
     let close : Within (2 ^ 21) p.at = (within_facts (pos (2 ^ 21)) p.at middle).0 place.0 in
-    let at : IsTrue (is_within (pos (2 ^ 29)) p.at) = (within_facts (pos (2 ^ 29)) p.at high).1
+    let at : IsTrue (is_within (pos (2 ^ 29)) p.at) = (within_facts (pos (2 ^ 29)) p.at positive).1
     (record { x = omega (arith, close.x); y = omega (arith, close.y); z = omega (arith, close.z) }) in
     record { close = close; at = at; some = place.1; most = weights.1 }
 
@@ -86,7 +83,7 @@ off_settled : (held : Bool) (v : Vec3) (p : Particle) → Within 64 v → Calm p
 off_settled true v p slow calm = rw (calm.at, calm.some, calm.most, still p.at.x, still p.at.y, still p.at.z) refl
 off_settled false v p slow calm =
     let before : IsTrue (is_within (pos (2 ^ 29)) (minus p.at v)) =
-    (within_facts (pos (2 ^ 29)) (minus p.at v) high).1 (record {
+    (within_facts (pos (2 ^ 29)) (minus p.at v) positive).1 (record {
       x = difference p.at.x v.x calm.close.x slow.x;
       y = difference p.at.y v.y calm.close.y slow.y;
       z = difference p.at.z v.z calm.close.z slow.z;
@@ -139,9 +136,9 @@ linked ps ls small mesh =
 
 sphere_valid : (size : ℕ) → size ≤ 128 → IsTrue (is_valid_sphere (pos (2 ^ 29)) (middle_sphere size))
 sphere_valid size small = rw (
-  (within_facts (pos (2 ^ 29)) (plus (middle_sphere size).centre (on_axes (λ axis. pos 32768) (middle_sphere size).centre)) high).1
+  (within_facts (pos (2 ^ 29)) (plus (middle_sphere size).centre (on_axes (λ axis. pos 32768) (middle_sphere size).centre)) positive).1
       (record { x = omega (arith, ints, small); y = omega (arith, ints); z = omega (arith, ints, small) }),
-  (within_facts (pos (2 ^ 29)) (minus (middle_sphere size).centre (on_axes (λ axis. pos 32768) (middle_sphere size).centre)) high).1
+  (within_facts (pos (2 ^ 29)) (minus (middle_sphere size).centre (on_axes (λ axis. pos 32768) (middle_sphere size).centre)) positive).1
       (record { x = omega (arith, ints, small); y = omega (arith, ints); z = omega (arith, ints, small) }),
 ) refl
 

@@ -1,7 +1,7 @@
 -- What the entries that are accepted have.
-use Rattle.std.proofs.Common.{suc, ◌≡◌, ◌∙◌, refl, ℕ, ◌+◌, ◌-◌, ◌≤◌, ◌<◌, List, [], ◌∷◌, ◌++◌, length, Bool, true, false, Ok, Option, Some}
+use Rattle.std.proofs.Common.{suc, ◌≡◌, ◌∙◌, ap, refl, ℕ, ◌+◌, ◌-◌, ◌≤◌, ◌<◌, List, [], ◌∷◌, ◌++◌, length, Bool, true, false, Ok, Option, Some}
 use Rattle.std.proofs.Common.{None, arith, pos, negsuc, ℤ}
-use Rattle.std.specs.Prelude.{unwrap_or, ◌&&◌, ◌||◌, not, nat_le, nat_lt, int_le, unsigned_abs, ◌*ℤ◌, ◌-ℤ◌, ◌≤ℤ◌, ◌^◌, if◌then◌else◌}
+use Rattle.std.specs.Prelude.{unwrap_or, ◌&&◌, ◌||◌, not, nat_le, nat_lt, int_le, unsigned_abs, ◌*ℤ◌, ◌≤ℤ◌, ◌^◌, if◌then◌else◌}
 use Rattle.std.specs.List.{list_all, sum_by}
 use Rattle.std.proofs.lemmas.Int.{ints}
 use Rattle.std.proofs.lemmas.Bool.{and_parts, and_from, le-leb, leb-true}
@@ -35,14 +35,12 @@ use Rattle.pbd_scene.specs.Entries.{link_of, plane_of, planes_of, sphere_of, sph
 use Rattle.pbd_scene.specs.Entries.{row_of, key_of, step_number, step_of, steps_rise, few_rows, rising_path, path_of, track_of}
 use Rattle.pbd_scene.proofs.Accepted.{through, expect_ok, same_ok, tested, optional_some, between, required_integer_ok, integer_or_ok}
 use Rattle.pbd_scene.proofs.Accepted.{count_or_ok, required_vector_ok, each_pass, each_count, table_pass, table_keeps}
+use Rattle.pbd_num.proofs.VectorSizes.{minus_itself}
 
 -- ---- particles
 
-self : (n : ℤ) → n -ℤ n ≡ pos 0
-self n = omega (arith, ints)
-
 pub at_rest : (v : Vec3) → nat_le (squared_length (minus v v)) 0 ≡ true
-at_rest v = rw (self v.x, self v.y, self v.z) refl
+at_rest v = ap (λ (u : Vec3). nat_le (squared_length u) 0) (minus_itself v)
 
 -- valid, and at rest where it is held
 abbrev pub is_entry_particle : ℤ → Particle → Bool

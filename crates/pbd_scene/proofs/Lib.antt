@@ -1,6 +1,7 @@
 pub mod Accepted
 pub mod Bounds
 pub mod Entering
+pub mod Limits
 pub mod LiveLinks
 pub mod Flagged
 pub mod EntryLinks

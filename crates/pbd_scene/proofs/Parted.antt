@@ -1,5 +1,5 @@
 -- What the tables of a tree give, while its parts are put together.
-use Rattle.std.proofs.Common.{◌≡◌, refl, ◌+◌, ◌≤◌, ◌^◌, List, [], ◌∷◌, length, Bool, true, arith, ℤ, All, get_or}
+use Rattle.std.proofs.Common.{◌≡◌, ◌+◌, ◌≤◌, ◌^◌, List, [], ◌∷◌, length, Bool, true, arith, ℤ, All, get_or}
 use Rattle.std.specs.Prelude.{IsTrue, fold}
 use Rattle.std.specs.List.{list_all}
 use Rattle.std.proofs.lemmas.Bool.{and_parts}
@@ -46,10 +46,6 @@ cloth_grows parts s = omega (arith, length-append parts.particles (cloth_particl
 
 pub rope_grows : (parts : Parts) (s : RopeSpec) → length (with_rope parts s).particles ≡ length parts.particles + s.count
 rope_grows parts s = omega (arith, length-append parts.particles (rope_particles s), rope_size s)
-
-pub cloths_keep_limit : (parts : Parts) (cloths : List ClothSpec) → (fold with_cloth parts cloths).limit ≡ parts.limit
-cloths_keep_limit parts [] = refl
-cloths_keep_limit parts (s ∷ ss) = cloths_keep_limit (with_cloth parts s) ss
 
 pub cloths_grow : (parts : Parts) (cloths : List ClothSpec)
     → length (fold with_cloth parts cloths).particles ≡ length parts.particles + all_cloths_size cloths

@@ -61,20 +61,20 @@ one_longer front now y i is count = rw is (omega (arith, length-append front (y 
 
 -- ---- the same of a list that is read as it stands
 
-item : {X : Type 0} (xs : List X) (i : ℕ) (x : X) → i < length xs → x ≡ get_or xs i x → drop i xs ≡ x ∷ drop (i + 1) xs
-item xs i x within same = drop_more xs i x within ∙ ap (λ y. y ∷ drop (i + 1) xs) (sym same)
+pub item_and_rest : {X : Type 0} (xs : List X) (i : ℕ) (x : X) → i < length xs → x ≡ get_or xs i x → drop i xs ≡ x ∷ drop (i + 1) xs
+item_and_rest xs i x within same = drop_more xs i x within ∙ ap (λ y. y ∷ drop (i + 1) xs) (sym same)
 
 pub next_ok : {X A : Type 0} (read : List A → X → Checked A) (xs : List X) (i : ℕ) (x : X) (front : List A) (y : A)
     (total : Checked (List A)) → i < length xs → x ≡ get_or xs i x → read front x ≡ Ok y → each read front (drop i xs) ≡ total
     → each read (front ++ y ∷ []) (drop (i + 1) xs) ≡ total
 next_ok read xs i x front y total within same is so_far =
-    sym (each_more read front x (drop (i + 1) xs) y is) ∙ sym (ap (each read front) (item xs i x within same)) ∙ so_far
+    sym (each_more read front x (drop (i + 1) xs) y is) ∙ sym (ap (each read front) (item_and_rest xs i x within same)) ∙ so_far
 
 pub next_fails : {X A : Type 0} (read : List A → X → Checked A) (xs : List X) (i : ℕ) (x : X) (front : List A) (e : SceneFault)
     (total : Checked (List A)) → i < length xs → x ≡ get_or xs i x → Fails e (read front x) → each read front (drop i xs) ≡ total
     → Fails e total
 next_fails read xs i x front e total within same fails so_far =
-    each_fails read front x (drop (i + 1) xs) e total fails (sym (ap (each read front) (item xs i x within same)) ∙ so_far)
+    each_fails read front x (drop (i + 1) xs) e total fails (sym (ap (each read front) (item_and_rest xs i x within same)) ∙ so_far)
 
 pub item_ok : {X A : Type 0} (read : List A → X → Checked A) (xs : List X) (i : ℕ) (d : X) (front : List A) (y : A)
     (total : Checked (List A)) → i < length xs → read front (get_or xs i d) ≡ Ok y → each read front (drop i xs) ≡ total

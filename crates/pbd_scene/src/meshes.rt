@@ -26,7 +26,7 @@ fn add_all<M: MeshEntry>(alloc: Global, meshes: &[M], parts: &mut Parts) -> Resu
 }
 
 /// Adds the cloths and then the ropes.
-#[tactic(auto, using(crate::proofs::Parted::cloths_keep_limit, crate::proofs::Parted::cloths_grow))]
+#[tactic(auto, using(crate::proofs::Limits::cloths_keep_limit, crate::proofs::Parted::cloths_grow))]
 pub fn add_meshes(
     alloc: Global,
     cloths: &[ClothSpec],

@@ -90,12 +90,12 @@ legal_of_many stages done h e = record {
   count : (k : ℕ) → k < length stages → length (about k done) ≡ stage_at stages k
   count k q = omega (arith, ap (λ (l : List Event). length l) (h.each k q), length-take (stage_at stages k) (events_of k), h.high k q)
 
-  whole : total (λ k. sum_by (λ (x : Event). 1) (about k done)) (length stages) ≡ 3 * length stages
-  whole = sym (by_bond (λ (x : Event). 1) (length stages) done h.positions) ∙ ones done ∙ e
+  thrice_each : total (λ k. sum_by (λ (x : Event). 1) (about k done)) (length stages) ≡ 3 * length stages
+  thrice_each = sym (by_bond (λ (x : Event). 1) (length stages) done h.positions) ∙ ones done ∙ e
 
   full : (k : ℕ) → k < length stages → stage_at stages k ≡ 3
   full k q = sym (count k q) ∙ sym (ones (about k done)) ∙ all_full (λ j. sum_by (λ (x : Event). 1) (about j done)) (length stages)
-      (λ j r. omega (arith, ones (about j done), count j r, h.high j r)) whole k q
+      (λ j r. omega (arith, ones (about j done), count j r, h.high j r)) thrice_each k q
 
 -- ---- the ends of bonds without a common particle
 

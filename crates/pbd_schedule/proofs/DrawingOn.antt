@@ -2,7 +2,7 @@
 use Rattle.std.proofs.Common.{◌≡◌, ℕ, zero, suc, [], ◌∷◌, ◌++◌, ◌+◌, ◌*◌, map, ◌-◌, ◌<◌, ◌≤◌, List, length, take, set, length-take, refl}
 use Rattle.std.proofs.Common.{sym, ◌∙◌, ap, arith, Some, None}
 use Rattle.std.proofs.Math.Seq.{take-set-lt}
-use Rattle.std.proofs.lemmas.List.{get_or-take, append_assoc, append-nil}
+use Rattle.std.proofs.lemmas.List.{get_or-take, append_assoc, append-nil, take-take}
 use Rattle.std.proofs.lemmas.List.Sums.{sum_by-set, sum_by-swap_remove, sum_by-cons}
 use Rattle.rand_pcg.specs.Lcg.{Lcg}
 use Rattle.rand_pcg.specs.Pcg.{pcg32}
@@ -11,12 +11,6 @@ use Rattle.pbd_schedule.specs.declared.event.Event.{Event}
 use Rattle.pbd_schedule.specs.declared.event.Event.TheVariants.{Read, WriteA, WriteB}
 use Rattle.pbd_schedule.specs.Legal.{event_at}
 use Rattle.pbd_schedule.specs.Drawn.{following, replaced, gone_on, drawn_place, drawn_from, drawn, later, first_events}
-
-take-take_le : {A : Type 0} (a b : ℕ) (xs : List A) → a ≤ b → take a (take b xs) ≡ take a xs
-take-take_le zero b xs h = refl
-take-take_le (suc a) zero xs h = absurd (omega arith)
-take-take_le (suc a) (suc b) [] h = refl
-take-take_le (suc a) (suc b) (x ∷ xs) h = ap (λ l. x ∷ l) (take-take_le a b xs (omega arith))
 
 module _ (coming : List Event) (left i : ℕ) (h : left ≤ length coming) (w : i < left) where
   there : event_at (take left coming) i ≡ event_at coming i
@@ -35,7 +29,7 @@ module _ (coming : List Event) (left i : ℕ) (h : left ≤ length coming) (w : 
       sym (ap (λ (n : ℕ). take (n - 1) (set (take left coming) i (event_at (take left coming) (n - 1)))) size
       ∙ ap (λ (x : Event). take (left - 1) (set (take left coming) i x)) (get_or-take left coming (left - 1) (Read 0) (omega arith))
       ∙ ap (take (left - 1)) (sym (take-set-lt left coming i (event_at coming (left - 1)) w))
-      ∙ take-take_le (left - 1) left (set coming i (event_at coming (left - 1))) (omega arith))
+      ∙ take-take (left - 1) left (set coming i (event_at coming (left - 1))) (omega arith))
       ∙ sym (ap (λ (x : Event). replaced (take left coming) i (following x)) there ∙ ap (replaced (take left coming) i) f)
 
 -- how many events a bond has from its next on

@@ -54,10 +54,10 @@ module _ (stages : List ℕ) (coming : List Event) (i : ℕ) (h : i < length com
           (r.each j (omega (arith, l, length-set coming i f))) (r.apart j i (omega (arith, l, length-set coming i f)) h d))
     ];
     apart = λ j k l m d e. r.apart j k (omega (arith, l, length-set coming i f)) (omega (arith, m, length-set coming i f)) d
-        (sym (same j) ∙ e ∙ same k);
+        (sym (positions_stay j) ∙ e ∙ positions_stay k);
   } where
-    same : (j : ℕ) → position_of (event_at (set coming i f) j) ≡ position_of (event_at coming j)
-    same j = elim (cases_eq j i) [
+    positions_stay : (j : ℕ) → position_of (event_at (set coming i f) j) ≡ position_of (event_at coming j)
+    positions_stay j = elim (cases_eq j i) [
       | inl e ↦ ap position_of (ap (event_at (set coming i f)) e ∙ get_or-set_same coming i f (Read 0) h) ∙ p
           ∙ sym (ap (λ (k : ℕ). position_of (event_at coming k)) e)
       | inr d ↦ ap position_of (get_or-set_other coming i j f (Read 0) d)

@@ -61,10 +61,10 @@ module _ (limit : ℤ) (B : ℕ → Bond) (m : ℕ) (ps : List Particle) (t : Le
 
   come_more : (done : List Event) (e : Event) (x : Mixed) → Come done x → BeginsLegal m (done ++ e ∷ [])
       → Come (done ++ e ∷ []) (happened limit B e x)
-  come_more done e x c legal = go (may_come c.stages e) refl where
-    go : (b : Bool) → may_come c.stages e ≡ b → Come (done ++ e ∷ []) (happened limit B e x)
-    go false out = absurd (misplaced c.stages done c.came e out (subst (λ (n : ℕ). BeginsLegal n (done ++ e ∷ [])) (sym c.many) legal))
-    go true may =
+  come_more done e x c legal = comes_if_may (may_come c.stages e) refl where
+    comes_if_may : (b : Bool) → may_come c.stages e ≡ b → Come (done ++ e ∷ []) (happened limit B e x)
+    comes_if_may false out = absurd (misplaced c.stages done c.came e out (subst (λ (n : ℕ). BeginsLegal n (done ++ e ∷ [])) (sym c.many) legal))
+    comes_if_may true may =
         let within = may_within c.stages e may in
         record {
           stages = one_more c.stages e;
@@ -161,8 +161,8 @@ some_leaving [] notes n e f = cc
 some_leaving (i ∷ batch) [] n e f = cc
 some_leaving (i ∷ batch) (note ∷ notes) n e f = at (λ g. some_leaving batch notes n (omega (arith, e)) g)
     (is_leaving note.correction) refl where
-      same : Some i ≡ Some n → i ≡ n
-      same h = cc
+      numbers_agree : Some i ≡ Some n → i ≡ n
+      numbers_agree h = cc
 
       earlier : is_leaving note.correction ≡ false → (j : ℕ) → ((k : ℕ) → k < j → is_leaving (note_at notes k).correction ≡ false) → (k : ℕ)
           → k < suc j → is_leaving (note_at (note ∷ notes) k).correction ≡ false
@@ -175,7 +175,7 @@ some_leaving (i ∷ batch) (note ∷ notes) n e f = at (λ g. some_leaving batch
         at = 0;
         within = omega arith;
         number =
-            same (sym (ap (λ (b : Bool). cond b (Some i) (first_leaving batch notes)) l) ∙ f);
+            numbers_agree (sym (ap (λ (b : Bool). cond b (Some i) (first_leaving batch notes)) l) ∙ f);
         before = λ k q. absurd (omega (arith, q));
         there = l;
       }

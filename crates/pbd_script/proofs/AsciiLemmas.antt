@@ -21,6 +21,7 @@ use Rattle.pbd_world.specs.Verbs.{row, verb_named, command_with}
 use Rattle.pbd_world.proofs.VerbLaws.{rows_pass, word_is}
 use Rattle.pbd_script.specs.Lines.{words, is_blank, is_digit, is_count, count, number, value, only_count}
 use Rattle.pbd_script.specs.Commands.{nothing, vector_of, only_vector, number_and_vector, operands_in, form, words_command, line_command}
+use Rattle.std.proofs.lemmas.Bool.{and_from}
 
 abbrev is_plain : ℕ → Bool
 is_plain b = nat_lt b 128
@@ -40,10 +41,6 @@ right : (a b : Bool) → (a && b) ≡ true → b ≡ true
 right true b all = all
 right false b all = cc
 
-both : (a b : Bool) → a ≡ true → b ≡ true → (a && b) ≡ true
-both true b first second = second
-both false b first second = cc
-
 -- what a mapped option came from
 came_from : {X Y : Type 0} (f : X → Y) (o : Option X) (y : Y) → option_map f o ≡ Some y → (x : X) × (o ≡ Some x)
 came_from f None y e = cc
@@ -60,7 +57,7 @@ digit_plain b is = grind (arith, nat_tests)
 
 digits_plain : (word : List ℕ) → list_all is_digit word ≡ true → plain word ≡ true
 digits_plain [] all = refl
-digits_plain (b ∷ word) all = both (is_plain b) (plain word) (digit_plain b (left (is_digit b) (list_all is_digit word) all))
+digits_plain (b ∷ word) all = and_from (is_plain b) (plain word) (digit_plain b (left (is_digit b) (list_all is_digit word) all))
     (digits_plain word (right (is_digit b) (list_all is_digit word) all))
 
 count_plain : (word : List ℕ) (n : ℕ) → count word ≡ Some n → plain word ≡ true
@@ -73,7 +70,7 @@ number_case : (minus : Bool) (b : ℕ) (word : List ℕ) (z : ℤ) → (b == 45)
     → (if minus then option_map (λ n. neg_ℤ (pos n)) (count word) else option_map (λ n. pos n) (count (b ∷ word))) ≡ Some z
     → plain (b ∷ word) ≡ true
 number_case true b word z first is = let n = came_from (λ n. neg_ℤ (pos n)) (count word) z is in
-    both (is_plain b) (plain word) (minus_plain b first) (count_plain word n.0 n.1)
+    and_from (is_plain b) (plain word) (minus_plain b first) (count_plain word n.0 n.1)
 number_case false b word z first is = let n = came_from (λ n. pos n) (count (b ∷ word)) z is in count_plain (b ∷ word) n.0 n.1
 
 number_plain : (word : List ℕ) (z : ℤ) → number word ≡ Some z → plain word ≡ true
@@ -88,24 +85,24 @@ nothing_plain o (w ∷ ws) is = cc
 
 only_count_plain : (ws : List (List ℕ)) (n : ℕ) → only_count ws ≡ Some n → all_plain ws ≡ true
 only_count_plain [] n is = refl
-only_count_plain (w ∷ []) n is = both (plain w) true (count_plain w n is) refl
+only_count_plain (w ∷ []) n is = and_from (plain w) true (count_plain w n is) refl
 only_count_plain (w ∷ next ∷ more) n is = cc
 
-three : (x y z : Option ℤ) (v : Vec3) → vector_of x y z ≡ Some v
+pub all_three : (x y z : Option ℤ) (v : Vec3) → vector_of x y z ≡ Some v
     → ((p : ℤ) × (x ≡ Some p)) × ((q : ℤ) × (y ≡ Some q)) × ((r : ℤ) × (z ≡ Some r))
-three None y z v is = cc
-three (Some p) None z v is = cc
-three (Some p) (Some q) None v is = cc
-three (Some p) (Some q) (Some r) v is = ((p, refl), (q, refl), (r, refl))
+all_three None y z v is = cc
+all_three (Some p) None z v is = cc
+all_three (Some p) (Some q) None v is = cc
+all_three (Some p) (Some q) (Some r) v is = ((p, refl), (q, refl), (r, refl))
 
 only_vector_plain : (ws : List (List ℕ)) (v : Vec3) → only_vector ws ≡ Some v → all_plain ws ≡ true
 only_vector_plain [] v is = refl
 only_vector_plain (x ∷ []) v is = cc
 only_vector_plain (x ∷ y ∷ []) v is = cc
 only_vector_plain (x ∷ y ∷ z ∷ []) v is =
-    let each = three (number x) (number y) (number z) v is in
-    both (plain x) _ (number_plain x each.0.0 each.0.1) (both (plain y) _ (number_plain y each.1.0 each.1.1)
-    (both (plain z) true (number_plain z each.2.0 each.2.1) refl))
+    let each = all_three (number x) (number y) (number z) v is in
+    and_from (plain x) _ (number_plain x each.0.0 each.0.1) (and_from (plain y) _ (number_plain y each.1.0 each.1.1)
+    (and_from (plain z) true (number_plain z each.2.0 each.2.1) refl))
 only_vector_plain (x ∷ y ∷ z ∷ more ∷ ws) v is = cc
 
 pub chained : {X Y : Type 0} (f : X → Option Y) (o : Option X) (y : Y) → option_and_then f o ≡ Some y → (x : X) × (o ≡ Some x) × (f x ≡ Some y)
@@ -117,7 +114,7 @@ number_and_vector_plain [] o is = refl
 number_and_vector_plain (w ∷ axes) o is =
     let n = chained (λ n. option_map (λ v. NumberAndVector n v) (only_vector axes)) (count w) o is in
     let v = came_from (λ v. NumberAndVector n.0 v) (only_vector axes) o n.2 in
-    both (plain w) (all_plain axes) (count_plain w n.0 n.1) (only_vector_plain axes v.0 v.1)
+    and_from (plain w) (all_plain axes) (count_plain w n.0 n.1) (only_vector_plain axes v.0 v.1)
 
 operands_plain : (kind : OperandKind) (ws : List (List ℕ)) (o : Operands) → operands_in kind ws ≡ Some o → all_plain ws ≡ true
 operands_plain kinds.Nothing ws o is = nothing_plain o ws is
@@ -148,15 +145,15 @@ blank_plain b is = grind (arith, nat_tests)
 
 grown : (b : ℕ) (xs : List ℕ) (parts : List (List ℕ)) → all_plain (onto_first b parts) ≡ true → (all_plain parts ≡ true → plain xs ≡ true)
     → plain (b ∷ xs) ≡ true
-grown b xs [] all next = both (is_plain b) (plain xs) (left (is_plain b) true (left (plain (b ∷ [])) true all)) (next refl)
+grown b xs [] all next = and_from (is_plain b) (plain xs) (left (is_plain b) true (left (plain (b ∷ [])) true all)) (next refl)
 grown b xs (part ∷ parts) all next =
     let front = left (plain (b ∷ part)) (all_plain parts) all in
-    both (is_plain b) (plain xs) (left (is_plain b) (plain part) front)
-    (next (both (plain part) (all_plain parts) (right (is_plain b) (plain part) front) (right (plain (b ∷ part)) (all_plain parts) all)))
+    and_from (is_plain b) (plain xs) (left (is_plain b) (plain part) front)
+    (next (and_from (plain part) (all_plain parts) (right (is_plain b) (plain part) front) (right (plain (b ∷ part)) (all_plain parts) all)))
 
 part_case : (blank : Bool) (b : ℕ) (xs : List ℕ) (parts : List (List ℕ)) → is_blank b ≡ blank
     → all_plain (cond blank ([] ∷ parts) (onto_first b parts)) ≡ true → (all_plain parts ≡ true → plain xs ≡ true) → plain (b ∷ xs) ≡ true
-part_case true b xs parts is all next = both (is_plain b) (plain xs) (blank_plain b is) (next all)
+part_case true b xs parts is all next = and_from (is_plain b) (plain xs) (blank_plain b is) (next all)
 part_case false b xs parts is all next = grown b xs parts all next
 
 parts_plain : (line : List ℕ) → all_plain (slice_split is_blank line) ≡ true → plain line ≡ true
@@ -171,7 +168,7 @@ filtered_plain [] all = refl
 filtered_plain ([] ∷ parts) all = filtered_plain parts all
 filtered_plain ((b ∷ w) ∷ parts) all =
     let here : all_plain ((b ∷ w) ∷ filter (λ word. not (length word == 0)) parts) ≡ true = rw (shown b w) at all in
-    both (plain (b ∷ w)) (all_plain parts) (left (plain (b ∷ w)) _ here) (filtered_plain parts (right (plain (b ∷ w)) _ here))
+    and_from (plain (b ∷ w)) (all_plain parts) (left (plain (b ∷ w)) _ here) (filtered_plain parts (right (plain (b ∷ w)) _ here))
 
 words_plain : (line : List ℕ) → all_plain (words line) ≡ true → plain line ≡ true
 words_plain line all = parts_plain line (filtered_plain (slice_split is_blank line) all)
@@ -192,8 +189,8 @@ strip_case true (b ∷ rest) is all =
     ∷ [] = sym (ap (λ n. take n (b ∷ rest)) size ∙ take_all (length (b ∷ rest)) (b ∷ rest) (omega arith))
     ∙ take-suc (b ∷ rest) (length (b ∷ rest) - 1) 0 last in
     ap plain whole ∙ list_all-append is_plain (take (length (b ∷ rest) - 1) (b ∷ rest)) _
-    ∙ both (plain (take (length (b ∷ rest) - 1) (b ∷ rest))) _ all
-    (both (is_plain (get_or (b ∷ rest) (length (b ∷ rest) - 1) 0)) true (return_plain _ is) refl)
+    ∙ and_from (plain (take (length (b ∷ rest) - 1) (b ∷ rest))) _ all
+    (and_from (is_plain (get_or (b ∷ rest) (length (b ∷ rest) - 1) 0)) true (return_plain _ is) refl)
 
 strip_plain : (line : List ℕ) → plain (strip_carriage_return line) ≡ true → plain line ≡ true
 strip_plain line all = strip_case (slice_index line (length line - 1) == 13) line refl all
@@ -213,7 +210,7 @@ command_case false o c Q formed is = or_bad o c Q formed is
 words_case : (ws : List (List ℕ)) (c : Command) → words_command ws ≡ Some c → (c ≡ Bad) ⊎ (all_plain ws ≡ true)
 words_case [] c is = cc
 words_case (word ∷ ws) c is = command_case (starts_with nat_eq word (codes "#")) (form word ws) c (all_plain (word ∷ ws) ≡ true)
-    (λ d e. let fine = form_plain word ws d e in both (plain word) (all_plain ws) fine.0 fine.1) is
+    (λ d e. let fine = form_plain word ws d e in and_from (plain word) (all_plain ws) fine.0 fine.1) is
 
 bad_from : (c : Command) (line : List ℕ) → plain line ≡ false → (c ≡ Bad) ⊎ (all_plain (words (strip_carriage_return line)) ≡ true)
     → c ≡ Bad

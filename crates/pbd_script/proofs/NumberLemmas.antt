@@ -91,7 +91,7 @@ count_decimal n small =
     let most : nat_le (length (decimal n)) 18 ≡ true = grind (arith, nat_tests) in
     rw (one, most, writes.digits, writes.says) refl
 
-not_minus : (d : ℕ) → is_digit d ≡ true → (d == 45) ≡ false
+pub not_minus : (d : ℕ) → is_digit d ≡ true → (d == 45) ≡ false
 not_minus d is = grind (arith, nat_tests)
 
 plain : (ds : List ℕ) → list_all is_digit ds ≡ true → number ds ≡ option_map (λ n. pos n) (count ds)

@@ -1,5 +1,5 @@
 -- The near pairs that the grid finds are the pairs that touch.
-use Rattle.std.proofs.Common.{◌≡◌, ◌∙◌, refl, sym, ap, subst, ℕ, ◌+◌, ◌-◌, ◌^◌, ◌<◌, ◌≤◌, ltb, ℤ, pos, ◌≤ℤ◌, unsigned_abs, eqb, Bool, true}
+use Rattle.std.proofs.Common.{◌≡◌, ◌∙◌, refl, sym, ap, subst, ℕ, ◌+◌, ◌-◌, ◌^◌, ◌<◌, ◌≤◌, ℤ, pos, ◌≤ℤ◌, unsigned_abs, eqb, Bool, true}
 use Rattle.std.proofs.Common.{false, not, ◌&&◌, List, [], ◌∷◌, length, map, replicate, arith, Result, Ok, Err}
 use Rattle.std.specs.Prelude.{filter}
 use Rattle.std.specs.Result.{OnOk, OnErr}
@@ -26,6 +26,7 @@ use Rattle.pbd_self.specs.Apart.{held_at, may_touch}
 use Rattle.pbd_grid.specs.Looks.{looks_for}
 use Rattle.pbd_self.specs.Touching.{Found, touches, touching, looks_at, AreOrdered}
 use Rattle.pbd_world.proofs.ContactLemmas.{row_pairs}
+use Rattle.std.proofs.lemmas.Bool.{le-ltb}
 
 -- ---- what the grid finds
 
@@ -112,14 +113,7 @@ found_parts a b e f g h =
     ap (λ (n : ℕ). whole n a.pairs a.chains a.looks) e ∙ ap (λ (ps : List (ℕ × ℕ)). whole b.particles ps a.chains a.looks) f
     ∙ ap (λ (m : ℕ). whole b.particles b.pairs m a.looks) g ∙ ap (λ (k : ℕ). whole b.particles b.pairs b.chains k) h
 
-pub on_both : {A E P Q R : Type 0} (r : Result A E) → (P → Q → R) → OnOk r P → OnOk r Q → OnOk r R
-on_both (Ok x) f p q = f p q
-on_both (Err x) f p q = tt
-
 -- ---- at thickness 0
-
-not_below : (a : ℕ) → ltb a 0 ≡ false
-not_below a = grind (arith, nat_tests)
 
 none_kept : {A : Type 0} (test : A → Bool) → ((x : A) → test x ≡ false) → (xs : List A) → filter test xs ≡ []
 none_kept test fails [] = refl
@@ -130,7 +124,7 @@ unfolding touching
 none_at_zero links ps =
     none_kept (touches (pos 0) links ps) (λ pair. ap (λ (b : Bool). b && not ((particle_at ps pair.0).held && (particle_at ps pair.1).held)
     && not (joined links.pairs links.live pair.0 pair.1))
-    (not_below (squared_length (minus (particle_at ps pair.0).at (particle_at ps pair.1).at)))) (all_pairs (length ps))
+    (le-ltb (squared_length (minus (particle_at ps pair.0).at (particle_at ps pair.1).at)) 0 (omega arith))) (all_pairs (length ps))
 
 pub none_touch : (thickness : ℤ) (links : Coloured) (ps : List Particle) → thickness ≡ pos 0 → touching thickness links ps ≡ []
 none_touch thickness links ps e = ap (λ (t : ℤ). touching t links ps) e ∙ none_at_zero links ps

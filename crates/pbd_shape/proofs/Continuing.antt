@@ -81,12 +81,12 @@ module _ (limit : ℤ) (shapes : List Shape) where
       ≡ (rest >>= λ ss. Ok (shaped_after (n + 1) (one_shaped n s x) ss)) =
       ap (λ (qs : List Particle). each_from (n + 1) (λ i p. way p) qs >>= λ ss. Ok (shaped_after (n + 1) (one_shaped n s x) ss))
       (drop-set-lt (n + 1) ps n x.moved.particle (omega arith)) in
-      keeps ∙ by rest ∙ ap (λ (o : Option Shaped). one_more n o rest >>= λ ss. Ok (shaped_after n s ss)) e ∙ sym (first n s h)
+      keeps ∙ one_more_by rest ∙ ap (λ (o : Option Shaped). one_more n o rest >>= λ ss. Ok (shaped_after n s ss)) e ∙ sym (first n s h)
     where
-      by : (r : Result (List Shaped) ℕ) → (r >>= λ ss. Ok (shaped_after (n + 1) (one_shaped n s x) ss))
+      one_more_by : (r : Result (List Shaped) ℕ) → (r >>= λ ss. Ok (shaped_after (n + 1) (one_shaped n s x) ss))
           ≡ (one_more n (Some x) r >>= λ ss. Ok (shaped_after n s ss))
-      by (Ok ss) = ap Ok (after_more n s x ss h k)
-      by (Err m) = refl
+      one_more_by (Ok ss) = ap Ok (after_more n s x ss h k)
+      one_more_by (Err m) = refl
 
   -- where it leaves
   pub pushed_out : (n : ℕ) (s : Passing) → n < length s.motion.particles → None ≡ way (particle_at s.motion.particles n)
@@ -130,19 +130,19 @@ pub shaped_is : (limit : ℤ) (shapes : List Shape) (p : Particle) (o : Option W
     → o ≡ cond p.held (Some (record { at = p.at; touched = false })) (way_through limit shapes (record { at = p.at; touched = false }))
     → option_map (shaped_to p) o ≡ shaped limit shapes p
 unfolding shaped
-shaped_is limit shapes p o e = ap (option_map (shaped_to p)) e ∙ by p.held refl
+shaped_is limit shapes p o e = ap (option_map (shaped_to p)) e ∙ shaped_if_held p.held refl
   where
-    by : (held : Bool) → p.held ≡ held → option_map (shaped_to p)
+    shaped_if_held : (held : Bool) → p.held ≡ held → option_map (shaped_to p)
         (cond held (Some (record { at = p.at; touched = false })) (way_through limit shapes (record { at = p.at; touched = false })))
         ≡ cond held (Some (still p)) (option_map (shaped_by p) (way_through limit shapes (record { at = p.at; touched = false })))
-    by true h = ap (λ (b : Bool). Some (record {
+    shaped_if_held true h = ap (λ (b : Bool). Some (record {
       moved = record {
         particle = p;
         entries = cond (not b) ((classes.Shape, minus p.at p.at) ∷ []) [];
       };
       touched = false;
     })) h
-    by false h = free_to p (way_through limit shapes (record { at = p.at; touched = false })) h
+    shaped_if_held false h = free_to p (way_through limit shapes (record { at = p.at; touched = false })) h
 
 -- ---- friction
 

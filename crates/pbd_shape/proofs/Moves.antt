@@ -1,5 +1,5 @@
 -- How far a plane and a sphere move a place.
-use Rattle.std.proofs.Common.{◌≡◌, refl, sym, ap, ◌∙◌, ℕ, ◌+◌, ◌*◌, ◌<◌, ◌≤◌, ◌^◌, true, false, ◌==◌, arith, ℤ, pos, negsuc, ◌+ℤ◌, ◌-ℤ◌}
+use Rattle.std.proofs.Common.{◌≡◌, sym, ap, ◌∙◌, ℕ, ◌+◌, ◌*◌, ◌<◌, ◌≤◌, ◌^◌, true, false, ◌==◌, arith, ℤ, pos, negsuc, ◌+ℤ◌, ◌-ℤ◌}
 use Rattle.std.proofs.Common.{◌*ℤ◌, ◌<ℤ◌, ◌≤ℤ◌, int_lt, unsigned_abs, inl, inr, ◌⊎◌, Some, None, ltb}
 use Rattle.std.proofs.Common.{w64, FitsSigned}
 use Rattle.std.proofs.lemmas.Int.{ints, to_z-of_z}
@@ -11,10 +11,10 @@ use Rattle.pbd_num.specs.Vectors.{Within, on_axes, plus, minus, scaled, dot, squ
 use Rattle.pbd_world.specs.declared.parts.Plane.{Plane}
 use Rattle.pbd_world.specs.declared.parts.Sphere.{Sphere}
 use Rattle.pbd_world.specs.Shapes.{plane_shape, onto_sphere}
-use Rattle.pbd_num.proofs.Sizes.{fits, size-add, size-mul, positive_above, square_of}
+use Rattle.pbd_num.proofs.Sizes.{fits, size-add, size-mul, positive_above}
 use Rattle.pbd_num.proofs.VectorSizes.{word}
 use Rattle.pbd_num.proofs.RoundingLemmas.{size-rdiv, root-square, root-next}
-use Rattle.pbd_num.proofs.Lengths.{squared_length_le}
+use Rattle.pbd_num.proofs.Lengths.{squared_length_le, dot_square}
 
 -- a plane's move on one axis
 pub plane_move : (lack axis square : ℤ) → unsigned_abs lack ≤ 2 ^ 42 → unsigned_abs axis ≤ 2 ^ 10 → pos 0 <ℤ square
@@ -40,10 +40,6 @@ products_add p q r h k l =
     let all_fit = fits (p +ℤ q +ℤ r) (omega (arith, all)) in
     record { all_fit = simp to_z-of_z all_fit; sum = simp to_z-of_z; size = simp to_z-of_z all }
 
--- a normal with itself
-dot_square : (n : Vec3) → dot n n ≡ pos (squared_length n)
-dot_square n = rw (square_of n.x, square_of n.y, square_of n.z) refl
-
 pub square_low : (n : Vec3) → 0 < squared_length n → pos 0 <ℤ dot n n
 square_low n h = rw (dot_square n) (omega (arith, ints))
 
@@ -54,15 +50,15 @@ square_high n h = rw (dot_square n) (omega (arith, squared_length_le n (2 ^ 10) 
 pub in_by_squares : (squared : ℕ) (radius : ℤ) → pos 0 ≤ℤ radius
     → int_lt (pos squared) (pos (unsigned_abs radius * unsigned_abs radius)) ≡ int_lt (pos (root squared)) radius
 in_by_squares squared (negsuc r) h = absurd (omega (arith, ints))
-in_by_squares squared (pos r) h = by (cases_lt (root squared) r)
+in_by_squares squared (pos r) h = by_roots (cases_lt (root squared) r)
   where
-    by : (root squared < r) ⊎ (r ≤ root squared) → ltb squared (r * r) ≡ ltb (root squared) r
-    by (inl p) = lt-ltb squared (r * r) (lt_of_lt_of_le (root-next squared) (mul-le-mul (next p) (next p)))
+    by_roots : (root squared < r) ⊎ (r ≤ root squared) → ltb squared (r * r) ≡ ltb (root squared) r
+    by_roots (inl p) = lt-ltb squared (r * r) (lt_of_lt_of_le (root-next squared) (mul-le-mul (next p) (next p)))
         ∙ sym (lt-ltb (root squared) r p)
       where
         next : root squared < r → root squared + 1 ≤ r
         next q = omega arith
-    by (inr p) = le-ltb squared (r * r) (omega (arith, mul-le-mul p p, root-square squared)) ∙ sym (le-ltb (root squared) r p)
+    by_roots (inr p) = le-ltb squared (r * r) (omega (arith, mul-le-mul p p, root-square squared)) ∙ sym (le-ltb (root squared) r p)
 
 -- ---- what a plane gives
 

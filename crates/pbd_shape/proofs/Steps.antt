@@ -176,6 +176,9 @@ flagged_length false ts i = refl
 
 -- ---- blocks
 
+pub no_block : (n : ℕ) → 0 * n ≡ 0
+no_block n = omega arith
+
 pub room_enough : (s len : ℕ) → len ≤ 65536 → 2 ^ 120 + min s len * 2 ^ 31 ≤ 2 ^ 125
 room_enough s len h = omega arith
 
@@ -206,11 +209,11 @@ pub rubbed_is : (friction : ℤ) (p : Particle) (touched made : Bool) (loss : Ve
     → loss ≡ loss_of friction made p.before p.at → rubbed_by p made loss ≡ rubbed friction p touched
 unfolding rubbed
 rubbed_is friction p touched made loss em el = (λ i. rubbed_by p (em i) ((el ∙ ap (λ (b : Bool). loss_of friction b p.before p.at) em) i))
-    ∙ by (not p.held && touched)
+    ∙ rubbed_if (not p.held && touched)
   where
-    by : (b : Bool) → rubbed_by p b (loss_of friction b p.before p.at) ≡ cond b (slowed friction p) (stays p)
-    by true = refl
-    by false = ap (λ (v : Vec3). record { particle = record p { before = v }; entries = [] }) (plus_nothing p.before)
+    rubbed_if : (b : Bool) → rubbed_by p b (loss_of friction b p.before p.at) ≡ cond b (slowed friction p) (stays p)
+    rubbed_if true = refl
+    rubbed_if false = ap (λ (v : Vec3). record { particle = record p { before = v }; entries = [] }) (plus_nothing p.before)
 
 -- a place before stays within a bound
 pub loss_within : (friction : ℤ) (made : Bool) (before at : Vec3) (b : ℕ) → pos 0 ≤ℤ friction → friction ≤ℤ pos 256 → Within b before

@@ -1,6 +1,6 @@
 -- Particles that no shape moves, and that lose nothing to friction.
 use Rattle.std.proofs.Common.{◌≡◌, refl, sym, ap, ◌∙◌, ℕ, zero, suc, ◌+◌, ◌<◌, ◌≤◌, ◌==◌, Bool, true, false, cond, not, ◌&&◌, List, [], ◌∷◌}
-use Rattle.std.proofs.Common.{length, get_or, slice_set, arith, ℤ, pos, unsigned_abs, subst, ◌*◌, ◌^◌, ◌+ℤ◌, ◌-ℤ◌, ◌*ℤ◌, int_lt, IsTrue}
+use Rattle.std.proofs.Common.{length, get_or, slice_set, arith, ℤ, pos, unsigned_abs, subst, ◌*◌, ◌^◌, ◌*ℤ◌, int_lt, IsTrue}
 use Rattle.std.proofs.Common.{Some, Ok, inl, inr}
 use Rattle.std.specs.List.{list_any}
 use Rattle.std.proofs.lemmas.Int.{ints}
@@ -14,7 +14,7 @@ use Rattle.pbd_num.specs.Rounding.{rdiv}
 use Rattle.pbd_num.specs.Vectors.{Within, zero_vector, plus, minus, opposite}
 use Rattle.pbd_num.proofs.Ranges.{wider}
 use Rattle.pbd_store.specs.Moving.{AreInside}
-use Rattle.pbd_num.proofs.VectorSizes.{plus_nothing}
+use Rattle.pbd_num.proofs.VectorSizes.{plus_nothing, minus_itself, plus_zero}
 use Rattle.pbd_world.specs.declared.parts.Particle.{Particle}
 use Rattle.pbd_world.specs.declared.totals.Class.TheVariants as classes
 use Rattle.pbd_world.specs.Ledger.{Ledger, booked}
@@ -39,27 +39,18 @@ where_cost test old new most e h = rw e h
 -- a move that leads nowhere leaves the total of shapes as it is
 books_nothing : (t : Ledger) (made : Bool) (v : Vec3) → v ≡ zero_vector → booked t (cond made ((classes.Shape, v) ∷ []) []) ≡ t
 books_nothing t true v e = (λ i. booked t ((classes.Shape, e i) ∷ []))
-    ∙ (λ i. record t { shape = record { x = same t.shape.x i; y = same t.shape.y i; z = same t.shape.z i } })
-  where
-    same : (s : ℤ) → s +ℤ pos 0 ≡ s
-    same s = omega (arith, ints)
+    ∙ (λ i. record t { shape = record { x = plus_zero t.shape.x i; y = plus_zero t.shape.y i; z = plus_zero t.shape.z i } })
 books_nothing t false v e = refl
 
 -- ---- shapes
 
-nowhere : (v : Vec3) → minus v v ≡ zero_vector
-nowhere v = λ i. record { x = none v.x i; y = none v.y i; z = none v.z i }
-  where
-    none : (a : ℤ) → a -ℤ a ≡ pos 0
-    none a = omega (arith, ints)
-
 shaped_still : (limit : ℤ) (shapes : List Shape) (p : Particle) → IsStill limit shapes p.at
     → Some (shaped_to p (starting p.at)) ≡ shaped limit shapes p
-shaped_still limit shapes p h = shaped_is limit shapes p (Some (starting p.at)) (by p.held)
+shaped_still limit shapes p h = shaped_is limit shapes p (Some (starting p.at)) (still_if_held p.held)
   where
-    by : (held : Bool) → Some (starting p.at) ≡ cond held (Some (starting p.at)) (way_through limit shapes (starting p.at))
-    by true = refl
-    by false = sym h
+    still_if_held : (held : Bool) → Some (starting p.at) ≡ cond held (Some (starting p.at)) (way_through limit shapes (starting p.at))
+    still_if_held true = refl
+    still_if_held false = sym h
 
 module _ (limit : ℤ) (shapes : List Shape) (s : Passing)
     (flags : length s.touched ≡ length s.motion.particles) where
@@ -72,7 +63,7 @@ module _ (limit : ℤ) (shapes : List Shape) (s : Passing)
       let same : one_shaped n s x ≡ s = λ i. record {
         motion = record {
           particles = set-get_or ps n no_particle i;
-          totals = books_nothing s.motion.totals (not p.held) (minus p.at p.at) (nowhere p.at) i;
+          totals = books_nothing s.motion.totals (not p.held) (minus p.at p.at) (minus_itself p.at) i;
         };
         touched = (ap (λ (b : Bool). slice_set s.touched n b) (or-false (get_or s.touched n false)) ∙ set-get_or s.touched n false) i;
       } in
@@ -171,11 +162,11 @@ module _ (friction : ℤ) (s : Passing) (flags : length s.touched ≡ length s.m
 -- a particle that isn't touched loses nothing
 pub untouched_keeps : (friction : ℤ) (held touched : Bool) (before at : Vec3) → touched ≡ false
     → loss_of friction (not held && touched) before at ≡ zero_vector
-untouched_keeps friction held touched before at e = ap (λ (b : Bool). loss_of friction (not held && b) before at) e ∙ by held
+untouched_keeps friction held touched before at e = ap (λ (b : Bool). loss_of friction (not held && b) before at) e ∙ none_lost held
   where
-    by : (held : Bool) → loss_of friction (not held && false) before at ≡ zero_vector
-    by true = refl
-    by false = refl
+    none_lost : (held : Bool) → loss_of friction (not held && false) before at ≡ zero_vector
+    none_lost true = refl
+    none_lost false = refl
 
 -- no friction takes nothing
 takes_nothing : (v : Vec3) → rubbed_away (pos 0) v ≡ zero_vector
@@ -186,17 +177,17 @@ takes_nothing v = λ i. record { x = none v.x i; y = none v.y i; z = none v.z i 
     none a = let zero_product : a *ℤ pos 0 ≡ pos 0 = omega (arith, ints) in ap (λ (n : ℤ). rdiv n (pos 256)) zero_product
 
 smooth_keeps : (friction : ℤ) (made : Bool) (before at : Vec3) → friction ≡ pos 0 → loss_of friction made before at ≡ zero_vector
-smooth_keeps friction made before at e = ap (λ (f : ℤ). loss_of f made before at) e ∙ by made
+smooth_keeps friction made before at e = ap (λ (f : ℤ). loss_of f made before at) e ∙ none_lost made
   where
-    by : (made : Bool) → loss_of (pos 0) made before at ≡ zero_vector
-    by true = takes_nothing (minus at before)
-    by false = refl
+    none_lost : (made : Bool) → loss_of (pos 0) made before at ≡ zero_vector
+    none_lost true = takes_nothing (minus at before)
+    none_lost false = refl
 
 -- where there is no friction, or no particle is touched
 pub rubbed_by_none : (friction : ℤ) (s : Passing) → length s.touched ≡ length s.motion.particles
     → IsTrue (is_between (pos 0) (pos 256) friction) → (int_lt (pos 0) friction && list_any (λ t. t) s.touched) ≡ false
     → s.motion ≡ rub friction s
-rubbed_by_none friction s flags part none = by (int_lt (pos 0) friction) refl none
+rubbed_by_none friction s flags part none = rubs_if_rough (int_lt (pos 0) friction) refl none
   where
     smooth : int_lt (pos 0) friction ≡ false → friction ≡ pos 0
     smooth e = grind (arith, ints, nat_tests)
@@ -207,9 +198,9 @@ rubbed_by_none friction s flags part none = by (int_lt (pos 0) friction) refl no
       | inr unset ↦ unset
     ]
 
-    by : (rough : Bool) → int_lt (pos 0) friction ≡ rough → (rough && list_any (λ t. t) s.touched) ≡ false → s.motion ≡ rub friction s
-    by true r e = none_rubbed friction s flags (λ i lt. untouched_keeps friction (particle_at s.motion.particles i).held
+    rubs_if_rough : (rough : Bool) → int_lt (pos 0) friction ≡ rough → (rough && list_any (λ t. t) s.touched) ≡ false → s.motion ≡ rub friction s
+    rubs_if_rough true r e = none_rubbed friction s flags (λ i lt. untouched_keeps friction (particle_at s.motion.particles i).held
         (get_or s.touched i false) (particle_at s.motion.particles i).before (particle_at s.motion.particles i).at (clear e i lt))
-    by false r e = none_rubbed friction s flags (λ i lt. smooth_keeps friction
+    rubs_if_rough false r e = none_rubbed friction s flags (λ i lt. smooth_keeps friction
         (not (particle_at s.motion.particles i).held && get_or s.touched i false) (particle_at s.motion.particles i).before
         (particle_at s.motion.particles i).at (smooth r))

@@ -1,9 +1,8 @@
 -- What passed tests say, and which tests facts pass.
-use Rattle.std.proofs.Common.{◌≡◌, refl, sym, ap, ◌∙◌, subst, ℕ, ◌≤◌, Bool, true, false, not, ◌&&◌, List, [], ◌∷◌, ℤ, pos, unsigned_abs}
+use Rattle.std.proofs.Common.{◌≡◌, refl, sym, ap, ◌∙◌, subst, ℕ, ◌≤◌, Bool, true, false, not, ◌&&◌, List, [], ◌∷◌}
 use Rattle.std.proofs.Common.{arith, Result, Ok, Err, Option, Some, None}
 use Rattle.std.specs.Prelude.{IsTrue, nat_le, nat_lt}
 use Rattle.std.specs.Ordering.{int_eq}
-use Rattle.std.proofs.lemmas.Int.{ints}
 use Rattle.std.proofs.lemmas.Bool.{and_parts, and_from, leb-true, le-leb, not-false}
 use Rattle.std.proofs.lemmas.Bool.Decides.{nat_tests, Decides-int_eq}
 use Rattle.pbd_world.specs.declared.totals.Class.{Class}
@@ -12,6 +11,7 @@ use Rattle.pbd_world.specs.Outcomes.{◌>>=◌}
 use Rattle.pbd_sound.specs.declared.described.Unsound.{Unsound}
 use Rattle.pbd_sound.specs.declared.described.Unsound.TheVariants as faults
 use Rattle.pbd_sound.specs.Soundness.{Checked, faultless, without, is_sum_within, total_checked, is_same_sum}
+use Rattle.pbd_num.proofs.Sizes.{none_by_size}
 
 -- ---- one after another
 
@@ -71,11 +71,8 @@ total_facts class most s h = sum_facts most s (not-false _ (unless_passes _ (fau
 pub total_passes : (class : Class) (most : ℕ) (s : Sum) → SumWithin most s → total_checked class most s ≡ Ok tt
 total_passes class most s h = passes_unless _ (faults.Total class) (is_not _ (sum_test most s h))
 
-no_size : (a : ℤ) → unsigned_abs a ≤ 0 → a ≡ pos 0
-no_size a h = omega (arith, ints, h)
-
 pub none_within : (s : Sum) → SumWithin 0 s → s ≡ zero_sum
-none_within s h = λ i. record { x = no_size s.x h.x i; y = no_size s.y h.y i; z = no_size s.z h.z i }
+none_within s h = λ i. record { x = none_by_size s.x h.x i; y = none_by_size s.y h.y i; z = none_by_size s.z h.z i }
 
 pub within_none : (s : Sum) → s ≡ zero_sum → SumWithin 0 s
 within_none s e = subst (λ (t : Sum). SumWithin 0 t) (sym e) (record { x = omega arith; y = omega arith; z = omega arith })

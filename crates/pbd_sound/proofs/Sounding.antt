@@ -98,10 +98,7 @@ wrong_not : (held tracked rest : Bool) → (not held || tracked || rest) ≡ tru
 wrong_not true true rest h k = refl
 wrong_not true false true h k = refl
 wrong_not true false false h k = cc
-wrong_not false true rest h k = absurd (by (k refl))
-  where
-    by : false ≡ true → ⊥
-    by e = cc
+wrong_not false true rest h k = absurd (false≢true (k refl))
 wrong_not false false rest h k = refl
 
 pub rest_from : (tracks : List Track) (n : ℕ) (ps : List Particle) → first_where n (is_held_wrongly tracks) ps ≡ None
@@ -137,12 +134,12 @@ held_where : (ts : List Track) (ps : List Particle) (i : ℕ) → IsTrue (are_tr
 held_where [] ps i h e = cc
 held_where (t ∷ ts) ps i h e =
     let parts = and_parts (particle_at ps t.particle).held _ h in
-    by (t.particle == i) refl parts.0 (held_where ts ps i parts.1)
+    held_by_track (t.particle == i) refl parts.0 (held_where ts ps i parts.1)
   where
-    by : (b : Bool) → (t.particle == i) ≡ b → (particle_at ps t.particle).held ≡ true
+    held_by_track : (b : Bool) → (t.particle == i) ≡ b → (particle_at ps t.particle).held ≡ true
         → (is_tracked ts i ≡ true → (particle_at ps i).held ≡ true) → (particle_at ps i).held ≡ true
-    by true is first rest = ap (λ (k : ℕ). (particle_at ps k).held) (sym (eqb-true t.particle i is)) ∙ first
-    by false is first rest = rest (sym (ap (λ (b : Bool). b || is_tracked ts i) is) ∙ e)
+    held_by_track true is first rest = ap (λ (k : ℕ). (particle_at ps k).held) (sym (eqb-true t.particle i is)) ∙ first
+    held_by_track false is first rest = rest (sym (ap (λ (b : Bool). b || is_tracked ts i) is) ∙ e)
 
 -- ---- weights
 

@@ -95,7 +95,7 @@ module _ (width : ℕ) (w v : World) (ps : List Particle) (t : Ledger) (moved : 
 -- each particle was looked at, or none where there is no thickness
 pub looked_at : (w : World) (before count : ℕ) {particles : ℕ} → particles ≡ length w.particles → count ≤ before + particles
     → (w.thickness ≡ pos 0 → count ≡ before) → count ≤ before + finding_work w
-looked_at w before count {particles} all paid free = by w.thickness refl
+looked_at w before count {particles} all paid free = paid_by_thickness w.thickness refl
   where
     some : (k n : ℕ) → (if suc k == 0 then 0 else n) ≡ n
     some k n = ap (λ (b : Bool). if b then 0 else n) (ne_eqb (suc k) 0 (λ (e : suc k ≡ 0). absurd (omega (arith, e))))
@@ -103,22 +103,22 @@ looked_at w before count {particles} all paid free = by w.thickness refl
     looked : (t : ℤ) → w.thickness ≡ t → finding_work w ≡ (if unsigned_abs t == 0 then 0 else length w.particles)
     looked t e = finding_is w ∙ ap (λ (u : ℤ). if unsigned_abs u == 0 then 0 else length w.particles) e
 
-    by : (t : ℤ) → w.thickness ≡ t → count ≤ before + finding_work w
-    by (pos zero) e = omega (arith, free e)
-    by (pos (suc k)) e = (let each : finding_work w ≡ length w.particles = looked (pos (suc k)) e ∙ some k (length w.particles) in
+    paid_by_thickness : (t : ℤ) → w.thickness ≡ t → count ≤ before + finding_work w
+    paid_by_thickness (pos zero) e = omega (arith, free e)
+    paid_by_thickness (pos (suc k)) e = (let each : finding_work w ≡ length w.particles = looked (pos (suc k)) e ∙ some k (length w.particles) in
         omega (arith, all, paid, each))
-    by (negsuc k) e = (let each : finding_work w ≡ length w.particles = looked (negsuc k) e ∙ some k (length w.particles) in
+    paid_by_thickness (negsuc k) e = (let each : finding_work w ≡ length w.particles = looked (negsuc k) e ∙ some k (length w.particles) in
         omega (arith, all, paid, each))
 
 -- friction reaches the particles only where something was touched
 pub rubs_less : (friction : ℤ) (touched : List Bool) (blocks : ℕ)
     → rub_cost friction touched blocks ≤ (if int_lt (pos 0) friction then 2 * blocks else 0)
-rubs_less friction touched blocks = by (int_lt (pos 0) friction) (list_any (λ t. t) touched)
+rubs_less friction touched blocks = less_by_tests (int_lt (pos 0) friction) (list_any (λ t. t) touched)
   where
-    by : (b any : Bool) → (if b && any then 2 * blocks else 0) ≤ (if b then 2 * blocks else 0)
-    by true true = omega arith
-    by true false = omega arith
-    by false any = omega arith
+    less_by_tests : (b any : Bool) → (if b && any then 2 * blocks else 0) ≤ (if b then 2 * blocks else 0)
+    less_by_tests true true = omega arith
+    less_by_tests true false = omega arith
+    less_by_tests false any = omega arith
 
 -- ---- a step
 
@@ -126,12 +126,12 @@ rubs_less friction touched blocks = by (int_lt (pos 0) friction) (list_any (λ t
 pub found_begun : (w : World) (m : Motion) (links : List Link) → with_fault (leaves w phases.Predict) (predict w) ≡ Ok m → links ≡ w.links
     → found_in w ≡ contacts_of w.thickness links m.particles
 unfolding found_in
-found_begun w m links e same = by (predict w) e ∙ ap (λ (ls : List Link). contacts_of w.thickness ls m.particles) (sym same)
+found_begun w m links e same = found_by_result (predict w) e ∙ ap (λ (ls : List Link). contacts_of w.thickness ls m.particles) (sym same)
   where
-    by : (r : Result Motion ℕ) → with_fault (leaves w phases.Predict) r ≡ Ok m
+    found_by_result : (r : Result Motion ℕ) → with_fault (leaves w phases.Predict) r ≡ Ok m
         → found_after w r ≡ contacts_of w.thickness w.links m.particles
-    by (Ok n) h = (let is : n ≡ m = cc in ap (λ (x : Motion). contacts_of w.thickness w.links x.particles) is)
-    by (Err i) h = absurd cc
+    found_by_result (Ok n) h = (let is : n ≡ m = cc in ap (λ (x : Motion). contacts_of w.thickness w.links x.particles) is)
+    found_by_result (Err i) h = absurd cc
 
 -- ---- steps one after another
 

@@ -1,7 +1,6 @@
 -- What a solver keeps over its commands.
 use Rattle.std.proofs.Common.{◌≡◌, refl, sym, ap, ◌∙◌, ℕ, ◌<◌, ◌≤◌, List, [], ◌∷◌, Bool, true, false, length, map, ◌≢◌, arith, subst}
 use Rattle.std.proofs.Common.{◌+◌, ℤ, MatchResult, OnErr, Result, Ok, Err, ◌⊎◌, inl, inr}
-use Rattle.pbd_num.specs.Vectors.{zero_vector}
 use Rattle.pbd_world.specs.declared.parts.Particle.{Particle}
 use Rattle.pbd_world.specs.declared.parts.Link.{Link}
 use Rattle.pbd_world.specs.declared.parts.Parts.{Parts}
@@ -47,25 +46,26 @@ use Rattle.pbd_step.specs.Opening.{AreCopied, IsFirst, IsUnused}
 use Rattle.pbd_step.specs.Solving.{AreAlike, IsKept, IsTakenOver, Solved}
 use Rattle.pbd_step.specs.Obeying.{Obeys, Commanded, IsAnswered}
 use Rattle.pbd_world.proofs.OrderCounts.{flags_kept}
+use Rattle.pbd_world.proofs.SameShape.{scene_particles, scene_links}
 
 -- ---- what a command leads to
 
 -- a command that a part obeys leads from a sound world to a sound world of the same scene
 pub commanded : {S : Type 0} {world : S → World} {r : Result (Unit {0}) Refusal} {old new : S} (c : Command)
     → Obeys world r (outcome (world old) c) old new → IsSound (world old) → Commanded r (outcome (world old) c) (world old) (world new)
-commanded {S} {world} {r} {old} {new} c h sound = by r h.outcome h.kept
+commanded {S} {world} {r} {old} {new} c h sound = commanded_by r h.outcome h.kept
   where
-    by : (r : Result (Unit {0}) Refusal)
+    commanded_by : (r : Result (Unit {0}) Refusal)
         → MatchResult r (λ x. outcome (world old) c ≡ Ok (world new)) (λ refusal. outcome (world old) c ≡ Err refusal)
         → OnErr r (new ≡ old) → Commanded r (outcome (world old) c) (world old) (world new)
-    by (Ok x) e kept =
+    commanded_by (Ok x) e kept =
         let there = done-world (world old) (world new) c e in
         record {
           obeys = record { outcome = e; kept = kept };
           sound = subst IsSound there (command-sound (world old) c sound);
           one_scene = subst (AreOfOneScene (world old)) there (command-scene (world old) c sound);
         }
-    by (Err refusal) e kept =
+    commanded_by (Err refusal) e kept =
         record {
           obeys = record { outcome = e; kept = ap world kept };
           sound = subst IsSound (sym (ap world kept)) sound;
@@ -106,17 +106,17 @@ commanded_as {r} {w} {v} c d is h = subst (λ (x : Command). Commanded r (outcom
 -- a command that was done is answered as it is meant
 pub answers : {r : Result (Unit {0}) Refusal} {w v : World} {x : Reply} (c : Command) → Commanded r (outcome w c) w v
     → MatchResult r (λ y. x ≡ answer (deed c)) (λ refusal. x ≡ replies.Refused refusal) → IsAnswered w v c x
-answers {r} {w} {v} {x} c h told = by r h.obeys.outcome h.obeys.kept told
+answers {r} {w} {v} {x} c h told = answered_by r h.obeys.outcome h.obeys.kept told
   where
-    by : (r : Result (Unit {0}) Refusal) → MatchResult r (λ y. outcome w c ≡ Ok v) (λ refusal. outcome w c ≡ Err refusal)
+    answered_by : (r : Result (Unit {0}) Refusal) → MatchResult r (λ y. outcome w c ≡ Ok v) (λ refusal. outcome w c ≡ Err refusal)
         → OnErr r (v ≡ w) → MatchResult r (λ y. x ≡ answer (deed c)) (λ refusal. x ≡ replies.Refused refusal) → IsAnswered w v c x
-    by (Ok y) e kept is = record {
+    answered_by (Ok y) e kept is = record {
       reply = is ∙ sym (done-reply w v c e);
       world = sym (done-world w v c e);
       sound = h.sound;
       one_scene = h.one_scene;
     }
-    by (Err refusal) e kept is = record {
+    answered_by (Err refusal) e kept is = record {
       reply = is ∙ sym (refused-reply w c refusal e);
       world = kept ∙ sym (refused-world w c refusal e);
       sound = h.sound;
@@ -130,18 +130,8 @@ pub inner_scene : {P : Type 0} {mine seen : World} {inside outside : Solved P} �
     → AreOfOneScene seen outside.world → AreOfOneScene mine inside.world
 inner_scene e f h = coe 0 1 (i. AreOfOneScene (sym e i) (sym f i).world) h
 
-blank_many : (ps : List Particle) → length (map {A = Particle} {B = Particle}
-    (λ p. record p { at = zero_vector; before = zero_vector; held = false }) ps) ≡ length ps
-blank_many ps = length-mapped {A = Particle} {B = Particle} (λ p. record p { at = zero_vector; before = zero_vector; held = false }) ps
-
 dead_many : (ls : List Link) → length (map {A = Link} {B = Link} (λ l. record l { live = false }) ls) ≡ length ls
 dead_many ls = length-mapped {A = Link} {B = Link} (λ l. record l { live = false }) ls
-
-pub scene_particles : (v w : World) → AreOfOneScene v w → length v.particles ≡ length w.particles
-scene_particles v w e = sym (blank_many v.particles) ∙ ap (λ (u : World). length u.particles) e ∙ blank_many w.particles
-
-pub scene_links : (v w : World) → AreOfOneScene v w → length v.links ≡ length w.links
-scene_links v w e = sym (dead_many v.links) ∙ ap (λ (u : World). length u.links) e ∙ dead_many w.links
 
 pub scene_limit : (v w : World) → AreOfOneScene v w → v.limit ≡ w.limit
 scene_limit v w e = ap (λ (u : World). u.limit) e

@@ -131,19 +131,19 @@ followed w h k l free = subst (λ (n : ℕ). track_of w.tracks n ≡ None) (omeg
 pub stops_led : (w : World) (n : ℕ) → IsSound w → predict (unled w) ≡ Err n → predict w ≡ Err n
 unfolding predict led_result
 stops_led w n sound e = ap (λ (r : Result (List Moved) ℕ). r >>= λ ms. Ok (all_moved w.totals ms))
-    (each_led w 0 w.particles (followed w sound.tracked)) ∙ by (each_from 0 (predicted (unled w)) w.particles) e
+    (each_led w 0 w.particles (followed w sound.tracked)) ∙ stops_by_result (each_from 0 (predicted (unled w)) w.particles) e
   where
-    by : (r : Result (List Moved) ℕ) → (r >>= λ ms. Ok (all_moved w.totals ms)) ≡ Err n
+    stops_by_result : (r : Result (List Moved) ℕ) → (r >>= λ ms. Ok (all_moved w.totals ms)) ≡ Err n
         → (led_result w.tracks (w.steps + 1) 0 r >>= λ ms. Ok (all_moved w.totals ms)) ≡ Err n
-    by (Ok ms) h = absurd cc
-    by (Err m) h = h
+    stops_by_result (Ok ms) h = absurd cc
+    stops_by_result (Err m) h = h
 
 -- what goes without tracks goes with them, and then each tracked particle is led
 pub goes_led : (w : World) (m : Motion) (ps : List Particle) → IsSound w → predict (unled w) ≡ Ok m
     → Attached w.tracks (w.steps + 1) m.particles ps → predict w ≡ Ok (record m { particles = ps })
 unfolding predict led_result
 goes_led w m ps sound e follow = ap (λ (r : Result (List Moved) ℕ). r >>= λ ms. Ok (all_moved w.totals ms))
-    (each_led w 0 w.particles (followed w sound.tracked)) ∙ by (each_from 0 (predicted (unled w)) w.particles) e
+    (each_led w 0 w.particles (followed w sound.tracked)) ∙ goes_by_result (each_from 0 (predicted (unled w)) w.particles) e
   where
     motion : (ms : List Moved) → all_moved w.totals ms ≡ m
         → all_moved w.totals (all_led w.tracks (w.steps + 1) 0 ms) ≡ record m { particles = ps }
@@ -158,10 +158,10 @@ goes_led w m ps sound e follow = ap (λ (r : Result (List Moved) ℕ). r >>= λ 
         led_from_first w.tracks (w.steps + 1) k ms within ∙ sym (at.each k within)) in
         λ k. record { particles = same k; totals = (led_totals w.tracks (w.steps + 1) 0 w.totals ms ∙ ap (λ (n : Motion). n.totals) h) k }
 
-    by : (r : Result (List Moved) ℕ) → (r >>= λ ms. Ok (all_moved w.totals ms)) ≡ Ok m
+    goes_by_result : (r : Result (List Moved) ℕ) → (r >>= λ ms. Ok (all_moved w.totals ms)) ≡ Ok m
         → (led_result w.tracks (w.steps + 1) 0 r >>= λ ms. Ok (all_moved w.totals ms)) ≡ Ok (record m { particles = ps })
-    by (Ok ms) h = let inner : all_moved w.totals ms ≡ m = cc in ap (λ (n : Motion). Ok n) (motion ms inner)
-    by (Err n) h = absurd cc
+    goes_by_result (Ok ms) h = let inner : all_moved w.totals ms ≡ m = cc in ap (λ (n : Motion). Ok n) (motion ms inner)
+    goes_by_result (Err n) h = absurd cc
 
 -- ---- what the next part of a step needs
 

@@ -24,6 +24,8 @@ use Rattle.pbd_store.specs.Flying.{losses_at, places_at, pull_at, after_flight, 
 use Rattle.pbd_step.specs.Predicting.{unled, times}
 use Rattle.pbd_step.proofs.Mild.{sound_mild}
 use Rattle.std.proofs.Math.IntN.{+ℤ_assoc}
+use Rattle.pbd_num.proofs.VectorSizes.{plus_nothing}
+use Rattle.pbd_world.proofs.MovedLemmas.{zero_term}
 
 abbrev pub particles_of : List Moved → List Particle
 particles_of ms = map {A = Moved} {B = Particle} (λ m. m.particle) ms
@@ -150,13 +152,8 @@ one_booked w t pulled lost loss true none = (λ i. record t {
   where
     taken : (a b c : ℤ) → (a +ℤ neg_ℤ b) +ℤ neg_ℤ c ≡ a +ℤ neg_ℤ (b +ℤ c)
     taken a b c = omega (arith, ints)
-one_booked w t pulled lost loss false none = (λ i. with_both t (same pulled i) ((same lost ∙ ap (plus lost) (sym (none refl))) i))
-  where
-    axis : (a : ℤ) → a ≡ a +ℤ pos 0
-    axis a = omega (arith, ints)
-
-    same : (v : Vec3) → v ≡ plus v zero_vector
-    same v = λ i. record { x = axis v.x i; y = axis v.y i; z = axis v.z i }
+one_booked w t pulled lost loss false none = λ i. with_both t (sym (plus_nothing pulled) i)
+    ((sym (plus_nothing lost) ∙ ap (plus lost) (sym (none refl))) i)
 
 -- the sums of one particle and of those behind it
 pulled_first : (w : World) (p : Particle) (ps : List Particle) (a : Vec3)
@@ -184,16 +181,10 @@ all_booked : (w : World) (ps : List Particle) (t : Ledger) (pulled lost : Vec3)
     → fold {A = Moved} (λ u m. booked u m.entries) (with_both t pulled lost) (map (moved_of w) ps)
     ≡ with_both t (plus pulled (pulled_in w ps)) (plus lost (lost_in w ps))
 unfolding sum_below
-all_booked w [] t pulled lost = (λ i. with_both t (none pulled i) (same lost i))
+all_booked w [] t pulled lost = (λ i. with_both t (none pulled i) (sym (plus_nothing lost) i))
   where
-    axis : (a : ℤ) → a ≡ a +ℤ pos 0
-    axis a = omega (arith, ints)
-
     pull : (a g : ℤ) → a ≡ a +ℤ g *ℤ pos 0
     pull a g = omega (arith, ints)
-
-    same : (v : Vec3) → v ≡ plus v zero_vector
-    same v = λ i. record { x = axis v.x i; y = axis v.y i; z = axis v.z i }
 
     none : (v : Vec3) → v ≡ plus v (times w.gravity (pos 0))
     none v = λ i. record { x = pull v.x w.gravity.x i; y = pull v.y w.gravity.y i; z = pull v.z w.gravity.z i }
@@ -226,12 +217,9 @@ predicted_all w flown qs u h eq eu =
   where
     start : (t : Ledger) → t ≡ with_both t zero_vector zero_vector
     start t = λ i. record t {
-      gravity = record { x = axis t.gravity.x i; y = axis t.gravity.y i; z = axis t.gravity.z i };
-      damping = record { x = axis t.damping.x i; y = axis t.damping.y i; z = axis t.damping.z i };
+      gravity = record { x = zero_term t.gravity.x i; y = zero_term t.gravity.y i; z = zero_term t.gravity.z i };
+      damping = record { x = zero_term t.damping.x i; y = zero_term t.damping.y i; z = zero_term t.damping.z i };
     }
-      where
-        axis : (a : ℤ) → a ≡ a +ℤ pos 0
-        axis a = omega (arith, ints)
 
     from_none : (v : Vec3) → plus zero_vector v ≡ v
     from_none v = λ i. record { x = axis v.x i; y = axis v.y i; z = axis v.z i }

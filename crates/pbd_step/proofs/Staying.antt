@@ -24,7 +24,8 @@ use Rattle.pbd_pair.specs.Bonds.{bond_of}
 use Rattle.pbd_pair.specs.Laid.{HaveRows}
 use Rattle.pbd_pair.proofs.LaidParts.{weights_kept}
 use Rattle.pbd_step.specs.Staying.{AreBondsLaid, AreContactsLaid, IsReady, IsGoing, IsMoved, StaysInPass, ProjectsInPass, StaysInStep}
-use Rattle.pbd_step.proofs.UnderWay.{ok_both, still_movable}
+use Rattle.pbd_step.proofs.UnderWay.{still_movable}
+use Rattle.pbd_world.proofs.KeepingOn.{on_both}
 
 -- ---- states and scratch
 
@@ -159,7 +160,7 @@ module _ {l : ℕ} {P : Type 0} {count : P → ℕ} {lanes : P → ℕ} where
     stays = part_in_pass run (record run.state { store = store; totals = totals }) run.scratch.touched projector refl
         done.limit done.copies done.fixed refl not_fallen width;
     scratch = refl;
-    movable = ok_both r (still_movable (2 ^ 60) done.limit done.fixed) done.inside done.room;
+    movable = on_both r (still_movable (2 ^ 60) done.limit done.fixed) done.inside done.room;
   }
 
   pub none_in_pass : (run : Running l P) → StaysInPass count lanes run run

@@ -43,13 +43,13 @@ passes_same : (w : World) (ps : List Particle) (t : Ledger) (pairs : List (ℕ �
 passes_same w ps t pairs zero s = refl
 passes_same w ps t pairs (suc n) s = ap (λ (r : Result Passing Refusal).
     r >>= repeated n (pass (record w { particles = ps; totals = t }) pairs))
-    (same_pass w (record w { particles = ps; totals = t }) ps t pairs s refl) ∙ rest (pass w pairs s) (λ p. passes_same w ps t pairs n p)
+    (same_pass w (record w { particles = ps; totals = t }) ps t pairs s refl) ∙ later_passes_same (pass w pairs s) (λ p. passes_same w ps t pairs n p)
   where
-    rest : (r : Result Passing Refusal) → ((p : Passing) → repeated n (pass (record w { particles = ps; totals = t }) pairs) p
+    later_passes_same : (r : Result Passing Refusal) → ((p : Passing) → repeated n (pass (record w { particles = ps; totals = t }) pairs) p
         ≡ repeated n (pass w pairs) p) → (r >>= repeated n (pass (record w { particles = ps; totals = t }) pairs))
         ≡ (r >>= repeated n (pass w pairs))
-    rest (Ok p) f = f p
-    rest (Err e) f = refl
+    later_passes_same (Ok p) f = f p
+    later_passes_same (Err e) f = refl
 
 -- it ends alike wherever the particles are at its start
 pub finished_same : (w : World) (ps : List Particle) (t : Ledger) (pairs : List (ℕ × ℕ)) (m : Motion)
@@ -58,21 +58,21 @@ finished_same w ps t pairs m = go_on w pairs (repeated w.passes (pass (record w 
     (repeated w.passes (pass w pairs) (untouched m)) (passes_same w ps t pairs w.passes (untouched m))
 
 few_contacts : (w : World) (pairs : List (ℕ × ℕ)) (m : Motion) → length pairs ≤ 262144 → after_contacts w m pairs ≡ finished w pairs m
-few_contacts w pairs m few = by (nat_lt 262144 (length pairs)) refl
+few_contacts w pairs m few = finished_by_count (nat_lt 262144 (length pairs)) refl
   where
-    by : (b : Bool) → nat_lt 262144 (length pairs) ≡ b → (if b then Err (refusals.TooManyContacts (w.steps + 1)) else finished w pairs m)
+    finished_by_count : (b : Bool) → nat_lt 262144 (length pairs) ≡ b → (if b then Err (refusals.TooManyContacts (w.steps + 1)) else finished w pairs m)
         ≡ finished w pairs m
-    by true e = absurd (omega (arith, few, ltb-true 262144 (length pairs) e))
-    by false e = refl
+    finished_by_count true e = absurd (omega (arith, few, ltb-true 262144 (length pairs) e))
+    finished_by_count false e = refl
 
 many_contacts : (w : World) (pairs : List (ℕ × ℕ)) (m : Motion) → 262144 < length pairs
     → after_contacts w m pairs ≡ Err (refusals.TooManyContacts (w.steps + 1))
-many_contacts w pairs m many = by (nat_lt 262144 (length pairs)) refl
+many_contacts w pairs m many = refused_by_count (nat_lt 262144 (length pairs)) refl
   where
-    by : (b : Bool) → nat_lt 262144 (length pairs) ≡ b → (if b then Err (refusals.TooManyContacts (w.steps + 1)) else finished w pairs m)
+    refused_by_count : (b : Bool) → nat_lt 262144 (length pairs) ≡ b → (if b then Err (refusals.TooManyContacts (w.steps + 1)) else finished w pairs m)
         ≡ Err (refusals.TooManyContacts (w.steps + 1))
-    by true e = refl
-    by false e = absurd (omega (arith, many, ltb-false 262144 (length pairs) e))
+    refused_by_count true e = refl
+    refused_by_count false e = absurd (omega (arith, many, ltb-false 262144 (length pairs) e))
 
 predicted : (w : World) (r : Result Motion Refusal) → with_fault (leaves w phases.Predict) (predict w) ≡ r
     → step w ≡ (r >>= λ (m : Motion). after_contacts w m (contacts_of w.thickness w.links m.particles))

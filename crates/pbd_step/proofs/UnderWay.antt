@@ -1,6 +1,6 @@
 -- Worlds in the middle of a step, and the bonds of their links and contacts.
 use Rattle.std.proofs.Common.{◌≡◌, ◌≢◌, ap, sym, ◌∙◌, subst, ℕ, suc, ◌+◌, ◌<◌, ◌≤◌, ◌==◌, ◌&&◌, not, false, List, [], ◌∷◌, length, drop}
-use Rattle.std.proofs.Common.{arith, ℤ, pos, ◌≤ℤ◌, ◌*ℤ◌, unsigned_abs, IsTrue, nat_le, OnOk, Result, Ok, Err, to_z, of_z, w64}
+use Rattle.std.proofs.Common.{arith, ℤ, pos, ◌≤ℤ◌, ◌*ℤ◌, unsigned_abs, IsTrue, nat_le, to_z, of_z, w64}
 use Rattle.std.specs.List.{AllByRecursion, list_all}
 use Rattle.std.proofs.lemmas.Int.{ints, to_z-of_z}
 use Rattle.std.proofs.lemmas.Bool.{and_parts, and_from, leb-true, ltb-true, eq-eqb, false≢true}
@@ -182,10 +182,6 @@ moved_world setting old new same limit = λ i. record (world_of setting new)
     { limit = limit i; steps = (same i).steps; links = (same i).links.items; contacts = (same i).contacts }
 
 -- ---- what is known after an answer
-
-pub ok_both : {A E X Y Z : Type 0} (r : Result A E) → (X → Y → Z) → OnOk r X → OnOk r Y → OnOk r Z
-ok_both (Ok x) f a b = f a b
-ok_both (Err e) f a b = tt
 
 pub still_movable : {limit l : ℤ} {ps qs : List Particle} {t u : Ledger} (grown : ℕ) → l ≡ limit → fixed_parts qs ≡ fixed_parts ps
     → AreInside limit qs → ((n : ℕ) → HaveRoom n t → HaveRoom (n + grown) u) → (n : ℕ) → AreMovable n limit ps t

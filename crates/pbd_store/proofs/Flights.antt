@@ -20,11 +20,11 @@ use Rattle.pbd_store.proofs.InRows.{by_long, seen_by, low_seen, place_seen}
 use Rattle.pbd_num.proofs.Below.{split_below}
 
 pub kept_size : (b : Bool) (n r : ℤ) (m : ℕ) → r ≡ cond b n (pos 0) → unsigned_abs n ≤ m → unsigned_abs r ≤ m
-kept_size b n r m e h = subst (λ (z : ℤ). unsigned_abs z ≤ m) (sym e) (by b)
+kept_size b n r m e h = subst (λ (z : ℤ). unsigned_abs z ≤ m) (sym e) (size_if b)
   where
-    by : (b : Bool) → unsigned_abs (cond b n (pos 0)) ≤ m
-    by true = h
-    by false = omega arith
+    size_if : (b : Bool) → unsigned_abs (cond b n (pos 0)) ≤ m
+    size_if true = h
+    size_if false = omega arith
 
 -- ---- sums
 

@@ -8,9 +8,9 @@ use Rattle.std.proofs.lemmas.List.{get_or-set_same, get_or-set_other, length-set
 use Rattle.std.proofs.lemmas.Simd.{map-map}
 use Rattle.std.proofs.Math.Seq.{map-set_same}
 use Rattle.pbd_num.proofs.Ranges.{wider, within_facts}
-use Rattle.pbd_num.proofs.Sizes.{size-add, size-neg}
+use Rattle.pbd_num.proofs.Sizes.{size-add}
 use Rattle.pbd_num.specs.declared.Vec3.{Vec3}
-use Rattle.pbd_num.specs.Vectors.{Within, is_within, opposite, plus, zero_vector}
+use Rattle.pbd_num.specs.Vectors.{Within, is_within, plus, zero_vector}
 use Rattle.pbd_lanes.specs.Lane.{is_set}
 use Rattle.pbd_world.specs.declared.parts.Particle.{Particle}
 use Rattle.pbd_world.specs.Particles.{particle_at, no_particle, placed}
@@ -308,13 +308,6 @@ module _ {n spare : ℕ} {at before : List Vec3} {weight : List ℕ} {held : Lis
   moved_fixed = map-map (λ (p : Particle). record p { at = zero_vector }) (row moved before weight held) (range_with_len 0 n)
       ∙ sym (map-map (λ (p : Particle). record p { at = zero_vector }) (row at before weight held) (range_with_len 0 n))
       ∙ ap (λ (qs : List Particle). fixed_parts qs) e
-
-pub opposite_within : {v : Vec3} {bound : ℕ} → Within bound v → Within bound (opposite v)
-opposite_within {v} h = record {
-  x = omega (arith, size-neg v.x, h.x);
-  y = omega (arith, size-neg v.y, h.y);
-  z = omega (arith, size-neg v.z, h.z);
-}
 
 -- a short way from a place within the range
 pub stepped_within : {u v r : Vec3} → Within (2 ^ 29) u → Within (2 ^ 22) v → r ≡ plus u v → Within (2 ^ 30) r

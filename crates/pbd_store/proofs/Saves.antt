@@ -68,12 +68,12 @@ module _ (start : ℕ) (set : List Bool) (at before : ℕ → Vec3) (old : List 
       lane : (j : ℕ) → j < n → start + j < length old → Q (start + j) (particle_at new (start + j))
       lane j p q = elim (cases_Bool (is_set set j)) [
         | inl s ↦ subst (Q (start + j)) (sym (h.lanes j p q s)) (f j p q)
-        | inr u ↦ subst (Q (start + j)) (sym (h.others (start + j) (λ m r s e. false≢true (sym u ∙ ap (is_set set) (same m j e) ∙ s))))
+        | inr u ↦ subst (Q (start + j)) (sym (h.others (start + j) (λ m r s e. false≢true (sym u ∙ ap (is_set set) (offsets_agree m j e) ∙ s))))
             (g (start + j) q)
       ]
         where
-          same : (m j : ℕ) → start + m ≡ start + j → j ≡ m
-          same m j e = omega arith
+          offsets_agree : (m j : ℕ) → start + m ≡ start + j → j ≡ m
+          offsets_agree m j e = omega arith
 
   -- what is saved is determined
   pub saved_once : (n : ℕ) (new other : List Particle) → Saved n start set at before old new → Saved n start set at before old other
@@ -86,11 +86,11 @@ module _ (start : ℕ) (set : List Bool) (at before : ℕ → Vec3) (old : List 
       lane : (i j : ℕ) → start + j ≡ i → j < n → start + j < length old → particle_at new i ≡ particle_at other i
       lane i j e p l = elim (cases_Bool (is_set set j)) [
         | inl s ↦ subst (λ (m : ℕ). particle_at new m ≡ particle_at other m) e (h.lanes j p l s ∙ sym (k.lanes j p l s))
-        | inr u ↦ outside i (λ m q s f. false≢true (sym u ∙ ap (is_set set) (same m j i f e) ∙ s))
+        | inr u ↦ outside i (λ m q s f. false≢true (sym u ∙ ap (is_set set) (offsets_agree m j i f e) ∙ s))
       ]
         where
-          same : (m j i : ℕ) → start + m ≡ i → start + j ≡ i → j ≡ m
-          same m j i f e = omega arith
+          offsets_agree : (m j i : ℕ) → start + m ≡ i → start + j ≡ i → j ≡ m
+          offsets_agree m j i f e = omega arith
 
       each : (i : ℕ) → i < length old → particle_at new i ≡ particle_at other i
       each i l = elim (cases_lt i start) [

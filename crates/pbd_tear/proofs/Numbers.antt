@@ -80,13 +80,13 @@ passing_none test n = record { whole = (let all : n - 0 ≡ n = omega arith in r
 
 passing_more : (test : ℕ → Bool) (n i : ℕ) (so_far : List ℕ) (wanted : Bool) → i < n → wanted ≡ test i → Passing test n i so_far
     → Passing test n (i + 1) (cond wanted (so_far ++ i ∷ []) so_far)
-passing_more test n i so_far wanted lt e h = record { whole = rw e (by (test i) refl) ∙ h.whole }
+passing_more test n i so_far wanted lt e h = record { whole = rw e (passing_if (test i) refl) ∙ h.whole }
   where
-    by : (b : Bool) → test i ≡ b → cond b (so_far ++ i ∷ []) so_far ++ filter test (range_with_len (i + 1) (n - (i + 1))) ≡ so_far
+    passing_if : (b : Bool) → test i ≡ b → cond b (so_far ++ i ∷ []) so_far ++ filter test (range_with_len (i + 1) (n - (i + 1))) ≡ so_far
         ++ filter test (range_with_len i (n - i))
-    by true e = let left : n - i ≡ suc (n - (i + 1)) = omega (arith, lt) in
+    passing_if true e = let left : n - i ≡ suc (n - (i + 1)) = omega (arith, lt) in
         rw (left, e) (append_assoc so_far (i ∷ []) (filter test (range_with_len (i + 1) (n - (i + 1)))))
-    by false e = let left : n - i ≡ suc (n - (i + 1)) = omega (arith, lt) in rw (left, e) refl
+    passing_if false e = let left : n - i ≡ suc (n - (i + 1)) = omega (arith, lt) in rw (left, e) refl
 
 pub few_more : (wanted : Bool) (n i : ℕ) (so_far : List ℕ) → length so_far ≤ i → length (cond wanted (so_far ++ n ∷ []) so_far) ≤ i + 1
 few_more true n i so_far h = omega (arith, length-append so_far (n ∷ []), h)
@@ -99,12 +99,12 @@ passing_all test n i so_far le h =
 
 all_below : (test : ℕ → Bool) (a n m : ℕ) → a + n ≤ m → AllByRecursion (λ i. i < m) (filter test (range_with_len a n))
 all_below test a zero m le = tt
-all_below test a (suc n) m le = by (test a) (all_below test (a + 1) n m (omega (arith, le)))
+all_below test a (suc n) m le = below_if (test a) (all_below test (a + 1) n m (omega (arith, le)))
   where
-    by : (b : Bool) → AllByRecursion (λ i. i < m) (filter test (range_with_len (a + 1) n))
+    below_if : (b : Bool) → AllByRecursion (λ i. i < m) (filter test (range_with_len (a + 1) n))
         → AllByRecursion (λ i. i < m) (cond b (a ∷ filter test (range_with_len (a + 1) n)) (filter test (range_with_len (a + 1) n)))
-    by true rest = (omega (arith, le), rest)
-    by false rest = rest
+    below_if true rest = (omega (arith, le), rest)
+    below_if false rest = rest
 
 pub ascends : (test : ℕ → Bool) (n : ℕ) → AscendTo n (filter test (range_with_len 0 n))
 ascends test n = record {
@@ -185,14 +185,14 @@ with_tear_length_few links =
 filter_wider : (test wider : ℕ → Bool) → ((n : ℕ) → test n ≡ true → wider n ≡ true) → (ns : List ℕ)
     → filter test (filter wider ns) ≡ filter test ns
 filter_wider test wider h [] = refl
-filter_wider test wider h (n ∷ ns) = by (wider n) (test n) refl (h n) (filter_wider test wider h ns)
+filter_wider test wider h (n ∷ ns) = wider_if (wider n) (test n) refl (h n) (filter_wider test wider h ns)
   where
-    by : (w t : Bool) → test n ≡ t → (t ≡ true → w ≡ true) → filter test (filter wider ns) ≡ filter test ns
+    wider_if : (w t : Bool) → test n ≡ t → (t ≡ true → w ≡ true) → filter test (filter wider ns) ≡ filter test ns
         → filter test (cond w (n ∷ filter wider ns) (filter wider ns)) ≡ cond t (n ∷ filter test ns) (filter test ns)
-    by true t e h same = ap (λ (b : Bool). cond b (n ∷ filter test (filter wider ns)) (filter test (filter wider ns))) e
+    wider_if true t e h same = ap (λ (b : Bool). cond b (n ∷ filter test (filter wider ns)) (filter test (filter wider ns))) e
         ∙ ap (λ (ms : List ℕ). cond t (n ∷ ms) ms) same
-    by false true e h same = absurd (false≢true (h refl))
-    by false false e h same = same
+    wider_if false true e h same = absurd (false≢true (h refl))
+    wider_if false false e h same = same
 
 -- the numbers among some of the links that tear
 unfoldable pub torn_among : List Particle → List Link → List ℕ → List ℕ
@@ -214,13 +214,13 @@ unfolding torn_among
 torn_among_more ps links numbers i wanted d lt known e =
     let n = get_or numbers i 0 in
     let torn = e ∙ ap (λ (l : Link). is_torn ps l) (any_default links n d _ known) in
-    by wanted (filter (λ m. is_torn ps (link_at links m)) (take i numbers))
+    append_if wanted (filter (λ m. is_torn ps (link_at links m)) (take i numbers))
     ∙ ap (λ (b : Bool). filter (λ m. is_torn ps (link_at links m)) (take i numbers) ++ cond b (n ∷ []) []) torn
     ∙ sym (filter_more (λ m. is_torn ps (link_at links m)) numbers i 0 lt)
   where
-    by : (b : Bool) (so_far : List ℕ) → cond b (so_far ++ get_or numbers i 0 ∷ []) so_far ≡ so_far ++ cond b (get_or numbers i 0 ∷ []) []
-    by true so_far = refl
-    by false so_far = sym (append-nil so_far)
+    append_if : (b : Bool) (so_far : List ℕ) → cond b (so_far ++ get_or numbers i 0 ∷ []) so_far ≡ so_far ++ cond b (get_or numbers i 0 ∷ []) []
+    append_if true so_far = refl
+    append_if false so_far = sym (append-nil so_far)
 
 -- those of all numbers with a tear length are all that tear
 pub torn_among_all : (ps : List Particle) (links : List Link) → torn_among ps links (numbers_with_tear_length links) ≡ torn_numbers ps links
@@ -280,12 +280,12 @@ tearable_among_all links =
 
 below_start : (test : ℕ → Bool) (a n i : ℕ) → i < a → list_any (λ m. m == i) (filter test (range_with_len a n)) ≡ false
 below_start test a zero i lt = refl
-below_start test a (suc n) i lt = by (below_start test (a + 1) n i (omega (arith, lt))) (test a)
+below_start test a (suc n) i lt = none_below_if (below_start test (a + 1) n i (omega (arith, lt))) (test a)
   where
-    by : list_any (λ m. m == i) (filter test (range_with_len (a + 1) n)) ≡ false → (b : Bool)
+    none_below_if : list_any (λ m. m == i) (filter test (range_with_len (a + 1) n)) ≡ false → (b : Bool)
         → list_any (λ m. m == i) (cond b (a ∷ filter test (range_with_len (a + 1) n)) (filter test (range_with_len (a + 1) n))) ≡ false
-    by rest true = rw (ne_eqb a i (λ e. omega (arith, e, lt))) rest
-    by rest false = rest
+    none_below_if rest true = rw (ne_eqb a i (λ e. omega (arith, e, lt))) rest
+    none_below_if rest false = rest
 
 here : (test : ℕ → Bool) (a i : ℕ) (rest : List ℕ) → a ≡ i → list_any (λ m. m == i) rest ≡ false → (b : Bool) → test a ≡ b
     → list_any (λ m. m == i) (cond b (a ∷ rest) rest) ≡ test i

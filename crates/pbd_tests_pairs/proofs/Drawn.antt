@@ -68,12 +68,12 @@ apart_are n pairs p h =
 
 -- a limit that was read from its bits
 read : (n : ℤ) → IsTrue (is_limit n) → to_z w64 (of_z w64 n) ≡ n
-read n h = by (int_eq n (pos (2 ^ 28))) refl
+read n h = read_unless_limit (int_eq n (pos (2 ^ 28))) refl
   where
-    by : (b : Bool) → int_eq n (pos (2 ^ 28)) ≡ b → to_z w64 (of_z w64 n) ≡ n
-    by true e = let small : n ≡ pos (2 ^ 28) = (Decides-int_eq n (pos (2 ^ 28))).0 e in
+    read_unless_limit : (b : Bool) → int_eq n (pos (2 ^ 28)) ≡ b → to_z w64 (of_z w64 n) ≡ n
+    read_unless_limit true e = let small : n ≡ pos (2 ^ 28) = (Decides-int_eq n (pos (2 ^ 28))).0 e in
         to_z-of_z w64 n (fits n (omega (arith, ap unsigned_abs small)))
-    by false e = let large : n ≡ pos (2 ^ 29) = (Decides-int_eq n (pos (2 ^ 29))).0
+    read_unless_limit false e = let large : n ≡ pos (2 ^ 29) = (Decides-int_eq n (pos (2 ^ 29))).0
         (ap (λ (b : Bool). b || int_eq n (pos (2 ^ 29))) (sym e) ∙ h) in to_z-of_z w64 n (fits n (omega (arith, ap unsigned_abs large)))
 
 pub record MayPart (limit : ℤ) (particles : List Particle) (pairs : Pairs) : Type 0 where

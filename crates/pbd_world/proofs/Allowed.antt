@@ -91,6 +91,8 @@ pin_safe w i sound es =
 
 unpin_safe : (w : World) (i : ℕ) → IsSound w → NoneHolds (refusals w (commands.Unpin i)) → IsSafe w (freeing i)
 unpin_safe w i sound es =
+    let named = es.1 in
+    let untracked = named.1 in
     let l = there (length w.particles) i es.0 in
     let p = particle_at w.particles i in
     let q : Particle = record p { before = p.at; held = false } in
@@ -101,20 +103,22 @@ unpin_safe w i sound es =
       fits = record {
         fit = record { at = fit.at; before = fit.at; low = fit.low; high = fit.high };
         weight = refl;
-        tracked = λ e. absurd (false≢true (sym es.1.1.0 ∙ e));
+        tracked = λ e. absurd (false≢true (sym untracked.0 ∙ e));
         rest = rests_free w.tracks i q refl;
       };
-      even = resting s p ∙ ap (λ (held : Bool). both_sums (part_by held (velocity p)) s) (sym (not-false p.held es.1.0));
+      even = resting s p ∙ ap (λ (held : Bool). both_sums (part_by held (velocity p)) s) (sym (not-false p.held named.0));
     }
 
 place_safe : (w : World) (i : ℕ) (to : Vec3) → IsSound w → NoneHolds (refusals w (commands.Move i to)) → IsSafe w (placing i to)
 place_safe w i to sound es =
+    let named = es.1 in
+    let within = named.1 in
     let l = there (length w.particles) i es.0 in
     let p = particle_at w.particles i in
     let q : Particle = record p { at = to; before = to } in
     let fit = fit_of w i sound l in
-    let inside = not-false (is_within w.limit to) es.1.0 in
-    let held = not-false p.held es.1.1.0 in
+    let inside = not-false (is_within w.limit to) named.0 in
+    let held = not-false p.held within.0 in
     let s = all_totals w.totals in
     record {
       there = l;

@@ -3,7 +3,7 @@ use Rattle.std.proofs.Common.{◌≡◌, ◌≢◌, ◌⊎◌, refl, sym, ap, �
 use Rattle.std.proofs.Common.{◌++◌, length, get_or, take, drop, arith, inl, inr, append_assoc, length-append, All}
 use Rattle.std.specs.Prelude.{nat_le, nat_lt, ◌==◌, cond, filter}
 use Rattle.std.specs.List.{list_any, list_all, range_with_len}
-use Rattle.std.proofs.lemmas.Bool.{and_parts, and_from, eq-eqb, ne_eqb, cases_eq, cases_lt, ltb-true, lt-ltb}
+use Rattle.std.proofs.lemmas.Bool.{and_parts, and_from, eq-eqb, ne_eqb, cases_eq, cases_lt, ltb-true, lt-ltb, not-false}
 use Rattle.std.proofs.lemmas.Bool.Decides.{nat_tests}
 use Rattle.std.proofs.lemmas.List.{take_more, take_all, take-append-drop, get_or_default}
 use Rattle.std.proofs.lemmas.List.Elements.{All-get_or}
@@ -156,15 +156,11 @@ no_room : (b : ℕ) (at_a at_b : List ℕ) → is_room_for b at_a at_b ≡ false
 unfolding is_room_for
 no_room b at_a at_b h = elim (cases_lt (length at_a) 32) [
   | inl few ↦ elim (cases_lt (length at_b) 32) [
-    | inl less ↦ inr (inr (is_so (is_among b at_a) (rw (lt-ltb _ _ few, lt-ltb _ _ less) at h)))
+    | inl less ↦ inr (inr (not-false (is_among b at_a) (rw (lt-ltb _ _ few, lt-ltb _ _ less) at h)))
     | inr many ↦ inr (inl many)
   ]
   | inr many ↦ inl many
 ]
-  where
-    is_so : (x : Bool) → not x ≡ false → x ≡ true
-    is_so true e = refl
-    is_so false e = sym e
 
 too_many : (count : ℕ) (links : List Link) (k : ℕ) → k < count → 33 ≤ links_at links k → stand_alone count links ≡ false
 unfolding stand_alone

@@ -15,6 +15,7 @@ use Rattle.pbd_world.specs.Particles.{Motion, velocity, particle_at, placed}
 use Rattle.pbd_world.specs.Momentum.{momentum, IsBalanced}
 use Rattle.pbd_world.specs.Bonds.{entries_of, class_of}
 use Rattle.pbd_world.proofs.MomentumLemmas.{same_sum, part_by, momentum_set, added_all}
+use Rattle.std.proofs.Math.IntN.{+ℤ_assoc}
 
 -- ---- another place for one particle
 
@@ -65,12 +66,9 @@ with_moves false true u v s = sum_plus s u
 with_moves true false u v s = sum_plus s v
 with_moves true true u v s = s
 
-assoc_terms : (o t u : ℤ) → (o +ℤ t) +ℤ u ≡ o +ℤ (t +ℤ u)
-assoc_terms o t u = omega (arith, ints)
-
 assoc_one : (o t : Sum) (u : Vec3) → sum_plus (both_sums o t) u ≡ both_sums o (sum_plus t u)
-assoc_one o t u = same_sum (sum_plus (both_sums o t) u) (both_sums o (sum_plus t u)) (assoc_terms o.x t.x u.x) (assoc_terms o.y t.y u.y)
-    (assoc_terms o.z t.z u.z)
+assoc_one o t u = same_sum (sum_plus (both_sums o t) u) (both_sums o (sum_plus t u)) (+ℤ_assoc o.x t.x u.x) (+ℤ_assoc o.y t.y u.y)
+    (+ℤ_assoc o.z t.z u.z)
 
 moves_under : (p q : Bool) (u v : Vec3) (o t : Sum) → with_moves p q u v (both_sums o t) ≡ both_sums o (with_moves p q u v t)
 moves_under false false u v o t = ap (λ (s : Sum). sum_plus s v) (assoc_one o t u) ∙ assoc_one o (sum_plus t u) v

@@ -34,11 +34,11 @@ repeat-counts P c f w k (suc times) n s h =
 
 -- ---- lengths
 
-kept_length : (b : Bool) (x n : ℕ) (xs : List ℕ) → length xs ≤ n → length (cond b (x ∷ xs) xs) ≤ suc n
+kept_length : {A : Type 0} (b : Bool) (x : A) (n : ℕ) (xs : List A) → length xs ≤ n → length (cond b (x ∷ xs) xs) ≤ suc n
 kept_length true x n xs h = omega (arith, h)
 kept_length false x n xs h = omega (arith, h)
 
-pub filter_length : (test : ℕ → Bool) (xs : List ℕ) → length (filter test xs) ≤ length xs
+pub filter_length : {A : Type 0} (test : A → Bool) (xs : List A) → length (filter test xs) ≤ length xs
 filter_length test [] = omega arith
 filter_length test (x ∷ xs) = kept_length (test x) x (length xs) (filter test xs) (filter_length test xs)
 

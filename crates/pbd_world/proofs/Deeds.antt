@@ -56,11 +56,11 @@ outcome-leads P w c = deed-leads P w (refusals w c) (deed c)
 
 pub done-leads : (P : World → Type 0) (w : World) (c : Command) → P w → IfOk (outcome w c) P → P (after w c)
 unfolding meaning
-done-leads P w c h k = by (outcome w c) k
+done-leads P w c h k = leads_by_outcome (outcome w c) k
   where
-    by : (r : Result World Refusal) → IfOk r P → P (done_or_refused w (answer (deed c)) r).0
-    by (Ok v) j = j
-    by (Err e) j = h
+    leads_by_outcome : (r : Result World Refusal) → IfOk r P → P (done_or_refused w (answer (deed c)) r).0
+    leads_by_outcome (Ok v) j = j
+    leads_by_outcome (Err e) j = h
 
 pub command-leads : (P : World → Type 0) (w : World) (c : Command) → P w → (NoneHolds (refusals w c) → Leads P w (deed c)) → P (after w c)
 command-leads P w c h leads = done-leads P w c h (outcome-leads P w c h leads)

@@ -25,6 +25,7 @@ use Rattle.pbd_world.proofs.BetweenLemmas.{move_size}
 use Rattle.pbd_world.proofs.LedgerBounds.{AreSmall, bounded_weaker, booked_bounded}
 use Rattle.pbd_num.proofs.Signs.{share_none}
 use Rattle.pbd_num.proofs.VectorSizes.{plus_nothing}
+use Rattle.pbd_num.proofs.Ends.{same_axes}
 
 -- ---- two lists side by side
 
@@ -82,12 +83,6 @@ kept_placed limit ps qs i to z inside stays =
 
 -- ---- a held end doesn't move
 
-nothing_of : (z : ℤ) → unsigned_abs z ≤ 0 → z ≡ pos 0
-nothing_of z h = omega (arith, ints, h)
-
-same_vector : (v w : Vec3) → v.x ≡ w.x → v.y ≡ w.y → v.z ≡ w.z → v ≡ w
-same_vector v w x y z = λ i. record { x = x i; y = y i; z = z i }
-
 pub held_first : (a b : Vec3) (rest k wb : ℤ) → (pair_moves a b rest k (pos 0) wb).0 ≡ zero_vector
 held_first a b rest k wb = elim (cases_lt 0 (length_of (minus a b))) [
   | inl far ↦ elim (cases_lt 0 (unsigned_abs (pos 0) + unsigned_abs wb)) [
@@ -95,7 +90,7 @@ held_first a b rest k wb = elim (cases_lt 0 (length_of (minus a b))) [
         let total = unsigned_abs (pos 0) + unsigned_abs wb in
         let s = corrections (minus a b) rest in
         ap (λ (m : Vec3 × Vec3). m.0) (pair_moves-some a b rest k (pos 0) wb far heavy)
-        ∙ same_vector _ zero_vector (ap neg_ℤ (share_none s.x k total heavy)) (ap neg_ℤ (share_none s.y k total heavy))
+        ∙ same_axes _ zero_vector (ap neg_ℤ (share_none s.x k total heavy)) (ap neg_ℤ (share_none s.y k total heavy))
         (ap neg_ℤ (share_none s.z k total heavy))
     | inr light ↦ ap (λ (m : Vec3 × Vec3). m.0) (pair_moves-none a b rest k (pos 0) wb (inr (omega (arith, light))))
   ]
@@ -109,7 +104,7 @@ held_second a b rest k wa = elim (cases_lt 0 (length_of (minus a b))) [
         let total = unsigned_abs wa + unsigned_abs (pos 0) in
         let s = corrections (minus a b) rest in
         ap (λ (m : Vec3 × Vec3). m.1) (pair_moves-some a b rest k wa (pos 0) far heavy)
-        ∙ same_vector _ zero_vector (share_none s.x k total heavy) (share_none s.y k total heavy) (share_none s.z k total heavy)
+        ∙ same_axes _ zero_vector (share_none s.x k total heavy) (share_none s.y k total heavy) (share_none s.z k total heavy)
     | inr light ↦ ap (λ (m : Vec3 × Vec3). m.1) (pair_moves-none a b rest k wa (pos 0) (inr (omega (arith, light))))
   ]
   | inr near ↦ ap (λ (m : Vec3 × Vec3). m.1) (pair_moves-none a b rest k wa (pos 0) (inl (omega (arith, near))))

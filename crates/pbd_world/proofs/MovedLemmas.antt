@@ -26,7 +26,7 @@ abbrev pub all_moves : List Moved → Sum
 all_moves [] = zero_sum
 all_moves (m ∷ ms) = both_sums (moves_of m.entries) (all_moves ms)
 
-zero_term : (a : ℤ) → a ≡ a +ℤ pos 0
+pub zero_term : (a : ℤ) → a ≡ a +ℤ pos 0
 zero_term a = omega (arith, ints)
 
 pub plus_zero : (s : Sum) → s ≡ both_sums s zero_sum

@@ -53,10 +53,10 @@ flat_total f a (suc n) = omega (arith, length-append (f a) (flat_map f (range_wi
 
 pub kept_more : {A : Type 0} (test : A → Bool) (x : A) (xs : List A)
     → length (filter test (x ∷ xs)) ≡ cond (test x) 1 0 + length (filter test xs)
-kept_more {A} test x xs = by (test x) where
-  by : (b : Bool) → length {A = A} (cond b (x ∷ filter test xs) (filter test xs)) ≡ cond b 1 0 + length (filter test xs)
-  by true = omega arith
-  by false = omega arith
+kept_more {A} test x xs = kept_if (test x) where
+  kept_if : (b : Bool) → length {A = A} (cond b (x ∷ filter test xs) (filter test xs)) ≡ cond b 1 0 + length (filter test xs)
+  kept_if true = omega arith
+  kept_if false = omega arith
 
 -- each number that is kept has one colour
 by_colour : (test : ℕ → Bool) (colour_of : ℕ → ℕ) (n : ℕ) → ((i : ℕ) → colour_of i < n) → (xs : List ℕ)

@@ -1,5 +1,5 @@
 -- A sound world with another particle in place of one.
-use Rattle.std.proofs.Common.{◌≡◌, refl, sym, ap, ◌∙◌, ℕ, zero, suc, ◌+◌, ◌<◌, Bool, true, false, not, ◌||◌, List, [], ◌∷◌, length}
+use Rattle.std.proofs.Common.{◌≡◌, refl, sym, ap, ◌∙◌, ℕ, zero, suc, ◌+◌, ◌<◌, true, not, ◌||◌, List, [], ◌∷◌, length}
 use Rattle.std.proofs.Common.{length-set, arith, ℤ, inl, inr}
 use Rattle.std.specs.Prelude.{IsTrue, nat_le, ◌==◌, slice_set as set}
 use Rattle.std.specs.List.{AllByRecursion, AllZip, list_all, enumerate_from}
@@ -16,6 +16,7 @@ use Rattle.pbd_world.proofs.KeptLemmas.{zip_set}
 use Rattle.pbd_world.proofs.PredictGoes.{rests, all_rest}
 use Rattle.pbd_world.proofs.SameShape.{all_blank, weights_same, have_weight, still_formed}
 use Rattle.pbd_world.proofs.WorldParts.{formed, IsFit, all_fit}
+use Rattle.std.proofs.Math.Bool.{or-true}
 
 fit_set : (limit : ℤ) (ps : List Particle) (i : ℕ) (q : Particle) → AllByRecursion (IsFit limit) ps → IsFit limit q
     → AllByRecursion (IsFit limit) (set ps i q)
@@ -48,11 +49,7 @@ tracked_set (t ∷ ts) ps i q l h k =
     let parts = and_parts (particle_at ps t.particle).held (are_tracked_held ts ps) k in
     and_from _ _
     (held_set ps i t.particle q (λ e. h (ap (λ b. b || is_tracked ts i) (eq-eqb t.particle i e))) parts.0 l)
-    (tracked_set ts ps i q l (λ e. h (ap (λ b. (t.particle == i) || b) e ∙ or_true (t.particle == i))) parts.1)
-  where
-    or_true : (b : Bool) → (b || true) ≡ true
-    or_true true = refl
-    or_true false = refl
+    (tracked_set ts ps i q l (λ e. h (ap (λ b. (t.particle == i) || b) e ∙ or-true (t.particle == i))) parts.1)
 
 rest_to : (tracks : List Track) (i : ℕ) (ps : List Particle)
     → IsTrue (list_all {X = ℕ × Particle} (λ n. not n.1.held || is_tracked tracks n.0 || is_at_rest n.1) (enumerate_from i ps))

@@ -9,7 +9,7 @@ use Rattle.pbd_num.specs.declared.Vec3.{Vec3}
 use Rattle.pbd_num.specs.Rounding.{rdiv}
 use Rattle.pbd_num.specs.Vectors.{Within, is_within, opposite}
 use Rattle.pbd_num.proofs.Ranges.{within_facts, wider}
-use Rattle.pbd_num.proofs.Sizes.{size-neg, size-mul, pos_size}
+use Rattle.pbd_num.proofs.Sizes.{size-mul, pos_size}
 use Rattle.pbd_num.proofs.RoundingLemmas.{size-rdiv}
 use Rattle.pbd_world.specs.declared.parts.Particle.{Particle}
 use Rattle.pbd_world.specs.declared.parts.Key.{Key}
@@ -27,6 +27,8 @@ use Rattle.pbd_world.proofs.BetweenLemmas.{between, step_size, loss_size}
 use Rattle.pbd_world.proofs.LedgerBounds.{IsQuiet}
 use Rattle.pbd_world.proofs.KeptLemmas.{Kept, IsLimit}
 use Rattle.pbd_world.proofs.ValidLemmas.{at_rest_from}
+use Rattle.pbd_num.proofs.VectorSizes.{opposite_within}
+use Rattle.std.proofs.Math.Bool.{or-true}
 
 -- ---- tracks
 
@@ -80,12 +82,12 @@ found_valid : (limit : ℤ) (n i : ℕ) (tracks : List Track) → IsTrue (list_a
 found_valid limit n i [] h = tt
 found_valid limit n i (t ∷ ts) h =
     let parts = and_parts (is_valid_track limit n t) (list_all (is_valid_track limit n) ts) h in
-    by (t.particle == i) parts.0 (found_valid limit n i ts parts.1)
+    valid_by_track (t.particle == i) parts.0 (found_valid limit n i ts parts.1)
   where
-    by : (b : Bool) → IsTrue (is_valid_track limit n t) → IfSome (track_of ts i) (λ u. IsTrue (is_valid_track limit n u))
+    valid_by_track : (b : Bool) → IsTrue (is_valid_track limit n t) → IfSome (track_of ts i) (λ u. IsTrue (is_valid_track limit n u))
         → IfSome (if b then Some t else find (λ (u : Track). u.particle == i) ts) (λ u. IsTrue (is_valid_track limit n u))
-    by true v r = v
-    by false v r = r
+    valid_by_track true v r = v
+    valid_by_track false v r = r
 
 held_inside : (limit : ℤ) (n : ℕ) (track : Option Track) (t : ℕ) (at : Vec3) → IsLimit limit
     → IfSome track (λ u. IsTrue (is_valid_track limit n u)) → Inside limit at → Inside limit (held_place track t at)
@@ -94,12 +96,12 @@ held_inside limit n (Some track) t at lim v h = track_inside limit n track t lim
 
 pub untracked : (tracks : List Track) (i : ℕ) → is_tracked tracks i ≡ false → track_of tracks i ≡ None
 untracked [] i h = refl
-untracked (t ∷ ts) i h = by (t.particle == i) h (λ k. untracked ts i k)
+untracked (t ∷ ts) i h = untracked_by_track (t.particle == i) h (λ k. untracked ts i k)
   where
-    by : (b : Bool) → (b || is_tracked ts i) ≡ false → (is_tracked ts i ≡ false → track_of ts i ≡ None)
+    untracked_by_track : (b : Bool) → (b || is_tracked ts i) ≡ false → (is_tracked ts i ≡ false → track_of ts i ≡ None)
         → (if b then Some t else find (λ (u : Track). u.particle == i) ts) ≡ None
-    by true e f = absurd (false≢true (sym e))
-    by false e f = f e
+    untracked_by_track true e f = absurd (false≢true (sym e))
+    untracked_by_track false e f = f e
 
 -- ---- what a step begins with
 
@@ -118,13 +120,6 @@ pub record CanPredict (w : World) : Type 0 where
   pub damping_low : pos 0 ≤ℤ w.damping
   pub damping_high : unsigned_abs w.damping ≤ 1024
   pub tracks : IsTrue (list_all (is_valid_track w.limit (length w.particles)) w.tracks)
-
-opposite_within : (v : Vec3) (m : ℕ) → Within m v → Within m (opposite v)
-opposite_within v m h = record {
-  x = omega (arith, size-neg v.x, h.x);
-  y = omega (arith, size-neg v.y, h.y);
-  z = omega (arith, size-neg v.z, h.z);
-}
 
 nothing_lost : (a : ℤ) → rdiv (a *ℤ pos 0) (pos 1024) ≡ pos 0
 nothing_lost a = let size = size-rdiv (a *ℤ pos 0) (pos 1024) 0 (omega arith)
@@ -208,16 +203,12 @@ rests tracks i p = not p.held || is_tracked tracks i || is_at_rest p
 
 pub rests_held : (tracks : List Track) (i : ℕ) (p : Particle) (track : Bool) → is_tracked tracks i ≡ track
     → (track ≡ false → IsTrue (is_at_rest p)) → rests tracks i p ≡ true
-rests_held tracks i p true e h = ap (λ b. not p.held || b || is_at_rest p) e ∙ by (not p.held)
+rests_held tracks i p true e h = ap (λ b. not p.held || b || is_at_rest p) e ∙ true_between (not p.held)
   where
-    by : (b : Bool) → (b || true || is_at_rest p) ≡ true
-    by true = refl
-    by false = refl
-rests_held tracks i p false e h = ap (λ b. not p.held || is_tracked tracks i || b) (h refl) ∙ by (not p.held || is_tracked tracks i)
-  where
-    by : (b : Bool) → (b || true) ≡ true
-    by true = refl
-    by false = refl
+    true_between : (b : Bool) → (b || true || is_at_rest p) ≡ true
+    true_between true = refl
+    true_between false = refl
+rests_held tracks i p false e h = ap (λ b. not p.held || is_tracked tracks i || b) (h refl) ∙ or-true (not p.held || is_tracked tracks i)
 
 pub rests_free : (tracks : List Track) (i : ℕ) (p : Particle) → p.held ≡ false → rests tracks i p ≡ true
 rests_free tracks i p e = ap (λ b. not b || is_tracked tracks i || is_at_rest p) e

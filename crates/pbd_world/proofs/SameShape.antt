@@ -13,7 +13,7 @@ use Rattle.pbd_world.specs.declared.parts.Parts.{Parts}
 use Rattle.pbd_world.specs.Particles.{particle_at}
 use Rattle.pbd_world.specs.Valid.{is_valid_particle, is_valid_link, none_twice, join_alike, links_at, are_valid_links, are_valid_tracks}
 use Rattle.pbd_world.specs.Valid.{is_well_formed, are_tracked_held}
-use Rattle.pbd_world.specs.World.{HaveWeight}
+use Rattle.pbd_world.specs.World.{HaveWeight, World, AreOfOneScene}
 use Rattle.pbd_world.specs.Bonds.{link_at}
 use Rattle.pbd_world.specs.Step.{tear}
 use Rattle.pbd_world.proofs.KeepingOn.{length-mapped}
@@ -111,6 +111,17 @@ blank p = record p { at = zero_vector; before = zero_vector; held = false }
 
 abbrev pub all_blank : List Particle → List Particle
 all_blank ps = map {A = Particle} {B = Particle} (λ p. record p { at = zero_vector; before = zero_vector; held = false }) ps
+
+-- worlds of one scene have as many particles and links
+pub scene_particles : (w v : World) → AreOfOneScene w v → length w.particles ≡ length v.particles
+scene_particles w v same =
+    sym (length-mapped {A = Particle} {B = Particle} (λ p. blank p) w.particles) ∙ ap (λ (u : World). length u.particles) same
+    ∙ length-mapped {A = Particle} {B = Particle} (λ p. blank p) v.particles
+
+pub scene_links : (w v : World) → AreOfOneScene w v → length w.links ≡ length v.links
+scene_links w v same =
+    sym (length-mapped {A = Link} {B = Link} (λ l. unlive l) w.links) ∙ ap (λ (u : World). length u.links) same
+    ∙ length-mapped {A = Link} {B = Link} (λ l. unlive l) v.links
 
 same_blank : (p q : Particle) → q.weight ≡ p.weight → blank p ≡ blank q
 same_blank p q e = λ i. record (blank p) { weight = sym e i }

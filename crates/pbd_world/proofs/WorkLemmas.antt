@@ -83,17 +83,17 @@ module _ (pairs : List (ℕ × ℕ)) (live : List Bool) (lanes : ℕ) (some : 0 
   each c zero = omega (arith, colours_none lanes pairs live c)
   each c (suc n) = omega (arith, colours_next lanes pairs live c n, pieces_each (of_colour_count pairs live c) lanes some, each (c + 1) n)
 
-  few : (c n : ℕ) → colours_work lanes pairs live c n ≤ 4 * (total (of_colour_count pairs live) c n / lanes + used pairs live c n)
+  colours_few : (c n : ℕ) → colours_work lanes pairs live c n ≤ 4 * (total (of_colour_count pairs live) c n / lanes + used pairs live c n)
   unfolding total
-  few c zero = omega (arith, colours_none lanes pairs live c)
-  few c (suc n) =
+  colours_few c zero = omega (arith, colours_none lanes pairs live c)
+  colours_few c (suc n) =
       let k : ℕ = of_colour_count pairs live c in
       omega (
         arith,
         colours_next lanes pairs live c n,
         used_next pairs live c n,
         pieces_some k lanes some,
-        few (c + 1) n,
+        colours_few (c + 1) n,
         whole_pieces k (total (of_colour_count pairs live) (c + 1) n) lanes some,
       )
 
@@ -147,7 +147,7 @@ links_few lanes w some s =
     let all : total (of_colour_count pairs live) 0 63 ≡ live_count w.links =
     omega (arith, all_of pairs live, links_count w.links, none_serial w s) in
     let same : total (of_colour_count pairs live) 0 63 / lanes ≡ live_count w.links / lanes = ap (λ (n : ℕ). n / lanes) all in
-    omega (arith, bonds_are lanes pairs live, few pairs live lanes some 0 63, none_serial w s, used_are w.links, same)
+    omega (arith, bonds_are lanes pairs live, colours_few pairs live lanes some 0 63, none_serial w s, used_are w.links, same)
 
 pub links_half : (lanes : ℕ) (w : World) → 0 < lanes → IsSound w
     → 2 * links_work (2 * lanes) w.links ≤ links_work lanes w.links + 4 * colours_used w.links
@@ -303,7 +303,7 @@ pub step_few : (width lanes : ℕ) (w : World) (contacts : List (ℕ × ℕ)) �
     ≤ 4 * (blocks_in width w + w.passes * (live_count w.links / lanes + colours_used w.links + min (length contacts) 262144
     + blocks_in width w))
     + length w.tracks + finding_work w + 2 * tearable_count w.links
-step_few width lanes w contacts some s = by (nat_lt 262144 (length contacts)) refl
+step_few width lanes w contacts some s = few_by_count (nat_lt 262144 (length contacts)) refl
   where
     most : ℕ → ℕ
     most found =
@@ -331,11 +331,11 @@ step_few width lanes w contacts some s = by (nat_lt 262144 (length contacts)) re
           turned,
         )
 
-    by : (b : Bool) → nat_lt 262144 (length contacts) ≡ b → step_work width lanes w contacts ≤ most (min (length contacts) 262144)
-    by true e =
+    few_by_count : (b : Bool) → nat_lt 262144 (length contacts) ≡ b → step_work width lanes w contacts ≤ most (min (length contacts) 262144)
+    few_by_count true e =
         let refused = ap (λ (b : Bool). if b then 0 else finishing_work width lanes w contacts) e in
         omega (arith, step_is width lanes w contacts, refused, beginning_is width w)
-    by false e =
+    few_by_count false e =
         let few = ltb-false 262144 (length contacts) e in
         subst (λ (n : ℕ). step_work width lanes w contacts ≤ most n) (sym (min-eq_left few)) (going_on few)
 

@@ -1,4 +1,5 @@
-use Rattle.pbd_scene.proofs.Parted.{cloths_keep_limit, cloths_grow}
+use Rattle.pbd_scene.proofs.Limits.{cloths_keep_limit}
+use Rattle.pbd_scene.proofs.Parted.{cloths_grow}
 use Rattle.pbd_scene.proofs.meshes.add_meshes.Goals as goal
 
 pub add_all-requires-2 : goal.add_all-requires-2

@@ -8,8 +8,9 @@ use Rattle.pbd_store.specs.InRows.{place_in_row, places_in}
 use Rattle.pbd_store.specs.Listed.{place_at}
 use Rattle.pbd_store.specs.Pairs.{opposites_in, ways_in, row_in}
 use Rattle.pbd_store.specs.Reaching.{CoversEnds}
-use Rattle.pbd_store.proofs.Parting.{pairs_in_rows, pulled_more, first_in, second_in, second_near, opposite_within, stepped_within}
+use Rattle.pbd_store.proofs.Parting.{pairs_in_rows, pulled_more, first_in, second_in, second_near, stepped_within}
 use Rattle.pbd_store.proofs.pulling.pull_rows.Goals as goal
+use Rattle.pbd_num.proofs.VectorSizes.{opposite_within}
 
 pub plus-other-requires-clause-place : goal.plus-other-requires-clause-place
 plus-other-requires-clause-place c = second_in c.args.pairs c.loop-j.j c.loop-j.invariant.pulled (omega arith)
@@ -31,7 +32,7 @@ pub with-requires-clause-place : goal.with-requires-clause-place
 with-requires-clause-place c =
     let place = first_in c.args.pairs c.loop-j.j c.loop-j.invariant.pulled (omega arith)
     (pairs_in_rows c.args.rows.now c.requires.pairs) c.requires.apart c.row_in.ensures (c.requires.first c.loop-j.j (omega arith)) in
-    stepped_within place (opposite_within (c.requires.can.back.each c.loop-j.j (omega arith)))
+    stepped_within place (opposite_within _ _ (c.requires.can.back.each c.loop-j.j (omega arith)))
     (ap (λ (r : Place). place_in_row r) c.minus-one.ensures)
 
 pub with-reach-requires-clause-place : goal.with-reach-requires-clause-place

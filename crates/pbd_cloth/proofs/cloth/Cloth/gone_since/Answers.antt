@@ -1,7 +1,7 @@
 use Rattle.std.proofs.Common.{◌∙◌, ap, sym, subst, length, ◌<◌, List}
 use Rattle.pbd_world.specs.declared.parts.Link.{Link}
 use Rattle.pbd_world.specs.World.{World}
-use Rattle.pbd_step.proofs.Keeping.{scene_links}
+use Rattle.pbd_world.proofs.SameShape.{scene_links}
 use Rattle.pbd_cloth.specs.Slots.{Slotted}
 use Rattle.pbd_cloth.proofs.Slotting.{slot_is}
 use Rattle.pbd_cloth.proofs.cloth.Cloth.gone_since.Goals as goal

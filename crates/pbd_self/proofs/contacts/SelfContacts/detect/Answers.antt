@@ -11,9 +11,10 @@ use Rattle.pbd_grid.specs.Near.{near_pairs}
 use Rattle.pbd_self.specs.Apart.{may_touch}
 use Rattle.pbd_self.specs.Touching.{Found, AreOrdered, touching, looks_at}
 use Rattle.pbd_self.proofs.Finding.{places_inside, grid_finds, touching_ordered, ordered_in_range, recoloured, result_ordered, result_fits}
-use Rattle.pbd_self.proofs.Finding.{looks_are, found_parts, on_both, none_touch, none_looked}
+use Rattle.pbd_self.proofs.Finding.{looks_are, found_parts, none_touch, none_looked}
 use Rattle.pbd_self.proofs.contacts.SelfContacts.detect.Goals.{After-as_slice-held, After-find-found}
 use Rattle.pbd_self.proofs.contacts.SelfContacts.detect.Goals as goal
+use Rattle.pbd_world.proofs.KeepingOn.{on_both}
 
 -- ---- where the thickness is 0
 

@@ -11,17 +11,14 @@ use Rattle.pbd_shape.specs.Shaping.{push_cost, pushed_from}
 use Rattle.pbd_shape.proofs.Continuing.{pushed_begins, pushed_all}
 use Rattle.pbd_store.proofs.Fixed.{same_length}
 use Rattle.pbd_world.proofs.Rooms.{room_at}
-use Rattle.pbd_shape.proofs.Steps.{room_enough}
+use Rattle.pbd_shape.proofs.Steps.{no_block, room_enough}
 use Rattle.pbd_shape.proofs.Still.{unless_cost, pushed_by_none}
 use Rattle.pbd_shape.proofs.shapes.Shapes.push_out.Goals as goal
-
-none : (n : ℕ) → 0 * n ≡ 0
-none n = omega arith
 
 pub loop-block-init : goal.loop-block-init
 loop-block-init g c = record {
   rest = ap (λ (m : ℕ). pushed_from c.args.store.now.limit (all_shapes c.args.self) m
-      (record { motion = motion_of c.args.store.now c.args.totals.now; touched = c.args.touched.now })) (none g.row.L)
+      (record { motion = motion_of c.args.store.now c.args.totals.now; touched = c.args.touched.now })) (no_block g.row.L)
       ∙ pushed_begins c.args.store.now.limit (all_shapes c.args.self)
       (record { motion = motion_of c.args.store.now c.args.totals.now; touched = c.args.touched.now });
   limit = refl;

@@ -11,22 +11,19 @@ use Rattle.pbd_shape.specs.Rubbing.{AreWithin, rubbed_from}
 use Rattle.pbd_shape.proofs.Continuing.{rubbed_begins, rubbed_all}
 use Rattle.pbd_store.proofs.Fixed.{same_length_by}
 use Rattle.pbd_world.proofs.Rooms.{room_at}
-use Rattle.pbd_shape.proofs.Steps.{room_enough}
+use Rattle.pbd_shape.proofs.Steps.{no_block, room_enough}
 use Rattle.pbd_shape.proofs.Still.{rubbed_by_none}
 use Rattle.pbd_shape.proofs.touched.Touched.rub.Goals as goal
 
 abbrev settled : Particle → Particle
 settled p = record p { before = zero_vector }
 
-none : (n : ℕ) → 0 * n ≡ 0
-none n = omega arith
-
 pub loop-block-init : goal.loop-block-init
 loop-block-init g c =
     let f = c.ranges.friction in
     let s : Passing = record { motion = motion_of c.args.store.now c.args.totals.now; touched = c.args.self.now } in
     record {
-      rest = simp to_z-of_z (ap (λ (m : ℕ). rubbed_from c.args.friction m s) (none g.row.L) ∙ rubbed_begins c.args.friction s);
+      rest = simp to_z-of_z (ap (λ (m : ℕ). rubbed_from c.args.friction m s) (no_block g.row.L) ∙ rubbed_begins c.args.friction s);
       limit = refl;
       copies = refl;
       settled = refl;

@@ -3,8 +3,9 @@ use Rattle.pbd_world.specs.World.{World, IsSound}
 use Rattle.pbd_step.specs.declared.state.Setting.{Setting}
 use Rattle.pbd_step.specs.States.{world_of, HasLinks}
 use Rattle.pbd_step.specs.Solving.{Solved}
-use Rattle.pbd_step.proofs.Keeping.{inner_scene, scene_alike, scene_particles, scene_pairs, scene_fixed, scene_world, taken_links, weights_taken}
+use Rattle.pbd_step.proofs.Keeping.{inner_scene, scene_alike, scene_pairs, scene_fixed, scene_world, taken_links, weights_taken}
 use Rattle.pbd_step.proofs.snapshot.Snapshot.keep.Goals as goal
+use Rattle.pbd_world.proofs.SameShape.{scene_particles}
 
 pub take_over-requires : goal.take_over-requires
 take_over-requires g c =

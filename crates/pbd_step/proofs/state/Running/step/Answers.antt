@@ -12,9 +12,10 @@ use Rattle.pbd_step.specs.Staying.{IsGoing, StaysInStep}
 use Rattle.pbd_step.specs.Stepping.{finished}
 use Rattle.pbd_step.proofs.Staying.{move_in_step, tools_in_step, both_in_step, begun_goes, tools_go, refound, known_with}
 use Rattle.pbd_step.proofs.Stepping.{step_leaves, step_crowds, step_finishes, answers_so}
-use Rattle.pbd_step.proofs.UnderWay.{moved_world, more_under_way, ok_both}
+use Rattle.pbd_step.proofs.UnderWay.{moved_world, more_under_way}
 use Rattle.pbd_step.proofs.Costing.{finding_same, finishing_same, found_begun}
 use Rattle.pbd_step.proofs.state.Running.step.Goals as goal
+use Rattle.pbd_world.proofs.KeepingOn.{on_both}
 
 pub find-requires : goal.find-requires
 find-requires g c = (
@@ -119,7 +120,7 @@ returns-clause-handed g c =
     let given = ap (λ (r : Running g.row.L g.row.P.Denot). count r.projector) c.find.ensures.stays in
     let links = ap (λ (r : Running g.row.L g.row.P.Denot). live_count r.state.links.items) c.find.ensures.stays
     ∙ ap (λ (s : State g.row.L). live_count s.links.items) c.predict.ensures.moved.same in
-    ok_both c.finish.result (λ (contacts : c.finish.new.self.state.contacts ≡ length c.find.new.self.scratch.found.pairs)
+    on_both c.finish.result (λ (contacts : c.finish.new.self.state.contacts ≡ length c.find.new.self.scratch.found.pairs)
     (handed : count c.finish.new.self.projector ≡ min (count c.find.new.self.projector + c.args.setting.now.passes
     * (live_count c.find.new.self.state.links.items + length c.find.new.self.scratch.found.pairs)) (2 ^ 64 - 1)).
     handed ∙ (λ i. min (given i + c.args.setting.now.passes * (links i + sym contacts i)) (2 ^ 64 - 1)))

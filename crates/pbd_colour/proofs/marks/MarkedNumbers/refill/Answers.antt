@@ -2,7 +2,7 @@ use Rattle.std.proofs.Common.{◌≡◌, ◌∙◌, ◌+◌, ◌/◌, ℕ, Bool,
 use Rattle.std.proofs.lemmas.List.{length-replicate}
 use Rattle.pbd_world.specs.Room.{Roomed}
 use Rattle.pbd_colour.proofs.Marking.{all_unmarked, none_blocked}
-use Rattle.pbd_colour.proofs.marks.Marks.refill.Goals as goal
+use Rattle.pbd_colour.proofs.marks.MarkedNumbers.refill.Goals as goal
 
 pub fill-requires : goal.fill-requires
 fill-requires c = rw (← c.self.view_is) at c.requires

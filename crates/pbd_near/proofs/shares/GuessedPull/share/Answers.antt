@@ -3,7 +3,7 @@ use Rattle.std.proofs.lemmas.Int.{to_z-of_z, fits_signed_from_abs}
 use Rattle.std.proofs.Math.IntN.{*ℤ_comm}
 use Rattle.pbd_num.specs.Rounding.{rdiv}
 use Rattle.pbd_num.proofs.Sizes.{size_at_most}
-use Rattle.pbd_near.proofs.shares.Pull.share.Goals as goal
+use Rattle.pbd_near.proofs.shares.GuessedPull.share.Goals as goal
 
 pub returns-clause-some : goal.returns-clause-some
 returns-clause-some c = λ t.

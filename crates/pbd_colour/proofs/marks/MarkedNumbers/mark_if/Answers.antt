@@ -3,7 +3,7 @@ use Rattle.pbd_world.specs.Lending.{overwritten_is}
 use Rattle.pbd_world.specs.Colours.{live_at}
 use Rattle.pbd_colour.proofs.KeptLemmas.{AreBlocked-as}
 use Rattle.pbd_colour.proofs.Marking.{marks_in}
-use Rattle.pbd_colour.proofs.marks.Marks.mark_if.Goals as goal
+use Rattle.pbd_colour.proofs.marks.MarkedNumbers.mark_if.Goals as goal
 
 pub mark_both-requires : goal.mark_both-requires
 mark_both-requires c =

@@ -2,7 +2,7 @@ use Rattle.std.proofs.Common.{◌≡◌, ◌∙◌, ◌+◌, ◌/◌, ℕ, Bool,
 use Rattle.pbd_world.specs.Room.{Roomed}
 use Rattle.pbd_world.specs.Colours.{live_at}
 use Rattle.pbd_colour.proofs.Marking.{none_blocked}
-use Rattle.pbd_colour.proofs.marks.Marks.open.Goals as goal
+use Rattle.pbd_colour.proofs.marks.MarkedNumbers.open.Goals as goal
 
 pub invariant_of-result : goal.invariant_of-result
 invariant_of-result c =

@@ -1,7 +1,7 @@
 use Rattle.std.proofs.Common.{Bool, List, sym, ap, subst, length, arith}
 use Rattle.pbd_colour.specs.Marked.{AreUnmarked}
 use Rattle.pbd_colour.proofs.KeptLemmas.{AreBlocked-as}
-use Rattle.pbd_colour.proofs.marks.Marks.next.Goals as goal
+use Rattle.pbd_colour.proofs.marks.MarkedNumbers.next.Goals as goal
 
 pub next_marked-requires : goal.next_marked-requires
 next_marked-requires c =

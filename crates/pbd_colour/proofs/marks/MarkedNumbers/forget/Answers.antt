@@ -2,7 +2,7 @@ use Rattle.std.proofs.Common.{◌∙◌, sym, ap, length, refl}
 use Rattle.pbd_world.specs.Lending.{overwritten_is}
 use Rattle.pbd_colour.proofs.KeptLemmas.{AreBlocked-as}
 use Rattle.pbd_colour.proofs.Marking.{none_blocked}
-use Rattle.pbd_colour.proofs.marks.Marks.forget.Goals as goal
+use Rattle.pbd_colour.proofs.marks.MarkedNumbers.forget.Goals as goal
 
 pub invariant_of-self : goal.invariant_of-self
 invariant_of-self c =

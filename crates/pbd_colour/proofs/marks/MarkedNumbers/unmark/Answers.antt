@@ -2,7 +2,7 @@ use Rattle.std.proofs.Common.{◌∙◌, Bool, List, set, false, sym, ap, length
 use Rattle.pbd_world.specs.Lending.{overwritten_is}
 use Rattle.pbd_colour.proofs.KeptLemmas.{AreBlocked-as}
 use Rattle.pbd_colour.proofs.Marking.{AreBlocked-less, marks_in}
-use Rattle.pbd_colour.proofs.marks.Marks.unmark.Goals as goal
+use Rattle.pbd_colour.proofs.marks.MarkedNumbers.unmark.Goals as goal
 
 pub take_mark-requires : goal.take_mark-requires
 take_mark-requires c = let k = rw (← c.self.view_is) at c.requires in omega (arith, k, ap length c.as_mut_slice.ensures.value)

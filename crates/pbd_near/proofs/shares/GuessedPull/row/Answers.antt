@@ -5,7 +5,7 @@ use Rattle.pbd_num.specs.declared.Vec3.{Vec3}
 use Rattle.pbd_num.specs.Vectors.{Within}
 use Rattle.pbd_num.proofs.Sizes.{size_at_most}
 use Rattle.pbd_near.proofs.Taking.{moved}
-use Rattle.pbd_near.proofs.shares.Pull.row.Goals as goal
+use Rattle.pbd_near.proofs.shares.GuessedPull.row.Goals as goal
 
 pub returns-clause-value : goal.returns-clause-value
 returns-clause-value c = λ f way taken.
