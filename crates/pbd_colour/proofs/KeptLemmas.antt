@@ -4,6 +4,7 @@ use Rattle.std.proofs.Common.{length, sym, ap, subst, ◌∙◌, arith, slice_ra
 use Rattle.std.proofs.lemmas.Bool.{cases_lt, false≢true}
 use Rattle.std.proofs.lemmas.List.{get_or_past, get_or-replicate}
 use Rattle.pbd_chain.specs.Linked.{Linked, is_in, chain_at}
+use Rattle.pbd_world.specs.Lending.{overwritten, overwritten_is}
 use Rattle.pbd_world.specs.Colours.{live_at, colour}
 use Rattle.pbd_colour.specs.Pairs.{InRange, batch_of}
 use Rattle.pbd_colour.specs.Held.{Holds, end_at}
@@ -100,6 +101,16 @@ live_below live k a = elim (cases_lt k (length live)) [
   | inl l ↦ l
   | inr l ↦ absurd (false≢true (sym (get_or_past live k false (omega (arith, l))) ∙ a))
 ]
+
+-- a list over which a loan has left others, as many as it lent
+pub record IsWritten {A : Type 0} (xs left : List A) (n : ℕ) : Type 0 where
+  pub is : overwritten xs left ≡ left
+  pub long : length (overwritten xs left) ≡ n
+
+pub written : {A : Type 0} {xs lent : List A} {n : ℕ} (left : List A) → length left ≡ length lent → lent ≡ xs → length xs ≡ n → IsWritten xs left n
+written {xs = xs} left kept lends long =
+    let is = overwritten_is xs left (kept ∙ ap length lends) in
+    record { is = is; long = ap length is ∙ kept ∙ ap length lends ∙ long }
 
 -- empty chains
 pub no_items : (live : List Bool) (n : ℕ) (pairs : List (ℕ × ℕ)) (p x : ℕ) → live_at live (x / 2) ≡ false → p < n

@@ -1,7 +1,7 @@
 -- How far a plane and a sphere move a place.
 use Rattle.std.proofs.Common.{◌≡◌, sym, ap, ◌∙◌, ℕ, ◌+◌, ◌*◌, ◌<◌, ◌≤◌, ◌^◌, true, false, ◌==◌, arith, ℤ, pos, negsuc, ◌+ℤ◌, ◌-ℤ◌}
 use Rattle.std.proofs.Common.{◌*ℤ◌, ◌<ℤ◌, ◌≤ℤ◌, int_lt, unsigned_abs, inl, inr, ◌⊎◌, Some, None, ltb}
-use Rattle.std.proofs.Common.{w64, FitsSigned}
+use Rattle.std.proofs.Common.{w64, FitsSigned, subst}
 use Rattle.std.proofs.lemmas.Int.{ints, to_z-of_z}
 use Rattle.std.proofs.lemmas.Bool.{cond-true, cond-false, cases_lt, lt-ltb, le-ltb, ne_eqb}
 use Rattle.std.proofs.Math.Nat.{mul-le-mul, lt_of_lt_of_le}
@@ -11,7 +11,7 @@ use Rattle.pbd_num.specs.Vectors.{Within, on_axes, plus, minus, scaled, dot, squ
 use Rattle.pbd_world.specs.declared.parts.Plane.{Plane}
 use Rattle.pbd_world.specs.declared.parts.Sphere.{Sphere}
 use Rattle.pbd_world.specs.Shapes.{plane_shape, onto_sphere}
-use Rattle.pbd_num.proofs.Sizes.{fits, size-add, size-mul, positive_above}
+use Rattle.pbd_num.proofs.Sizes.{fits, size-add, size-sub, size-mul, positive_above}
 use Rattle.pbd_num.proofs.VectorSizes.{word}
 use Rattle.pbd_num.proofs.RoundingLemmas.{size-rdiv, root-square, root-next}
 use Rattle.pbd_num.proofs.Lengths.{squared_length_le, dot_square}
@@ -39,6 +39,26 @@ products_add p q r h k l =
     let two_fit = fits (p +ℤ q) (omega (arith, two)) in
     let all_fit = fits (p +ℤ q +ℤ r) (omega (arith, all)) in
     record { all_fit = simp to_z-of_z all_fit; sum = simp to_z-of_z; size = simp to_z-of_z all }
+
+-- what a place lacks of a plane, by what its product with the normal came to
+pub record Lacks (plane : Plane) (p : Vec3) (product : ℤ) : Type 0 where
+  pub fits_signed : FitsSigned w64 (word plane.offset -ℤ word product)
+  pub is : word (word plane.offset -ℤ word product) ≡ plane.offset -ℤ dot plane.normal p
+  pub size : unsigned_abs (plane.offset -ℤ dot plane.normal p) ≤ 2 ^ 42
+
+pub lacks : (plane : Plane) (p : Vec3) (product : ℤ) → unsigned_abs plane.offset ≤ 2 ^ 40 → unsigned_abs product ≤ 2 ^ 41
+    → product ≡ dot plane.normal p → Lacks plane p product
+lacks plane p product h k is =
+    let offset_fits = fits plane.offset (omega (arith, h)) in
+    let product_fits = fits product (omega (arith, k)) in
+    let size : unsigned_abs (plane.offset -ℤ product) ≤ 2 ^ 42 = omega (arith, size-sub plane.offset product, h, k) in
+    let lack_fits = fits (plane.offset -ℤ product) (omega (arith, size)) in
+    let lack : word (word plane.offset -ℤ word product) ≡ plane.offset -ℤ product = simp to_z-of_z in
+    record {
+      fits_signed = simp to_z-of_z lack_fits;
+      is = lack ∙ ap (λ (n : ℤ). plane.offset -ℤ n) is;
+      size = subst (λ (n : ℤ). unsigned_abs (plane.offset -ℤ n) ≤ 2 ^ 42) is size;
+    }
 
 pub square_low : (n : Vec3) → 0 < squared_length n → pos 0 <ℤ dot n n
 square_low n h = rw (dot_square n) (omega (arith, ints))

@@ -19,20 +19,22 @@ use Rattle.pbd_shape.specs.Way.{starting, AreStill}
 abbrev then_on : (Way → Option Way) → Option Way → Option Way
 then_on f o = elim o [ None ↦ None | Some next ↦ f next ]
 
-module _ {A : Type 0} (limit : ℤ) (f : A → Shape) (xs : List A) (i : ℕ) (d : A) (h : i < length xs) where
-  next : (way : Way) → way_through limit (map f (drop i xs)) way
-      ≡ then_on (way_through limit (map f (drop (suc i) xs))) (past limit way (f (get_or xs i d) way.at))
-  next way = ap (λ (ys : List A). way_through limit (map f ys) way) (drop-cons xs i d h)
+module _ {A : Type 0} (limit : ℤ) (f : A → Shape) (xs : List A) (i : ℕ) (h : i < length xs) {x : A} (is : x ≡ get_or xs i x) where
+  next : (way : Way) {to : Option Vec3} → to ≡ f x way.at → way_through limit (map f (drop i xs)) way
+      ≡ then_on (way_through limit (map f (drop (suc i) xs))) (past limit way to)
+  next way to = ap (λ (ys : List A). way_through limit (map f ys) way) (drop-cons xs i x h)
+      ∙ ap (λ (o : Option Vec3). then_on (way_through limit (map f (drop (suc i) xs))) (past limit way o))
+      (ap (λ (y : A). f y way.at) (sym is) ∙ sym to)
 
   -- where the place stays within the limit
-  pub way_on : (way on : Way) → Some on ≡ past limit way (f (get_or xs i d) way.at)
+  pub way_on : (way on : Way) {to : Option Vec3} → to ≡ f x way.at → Some on ≡ past limit way to
       → way_through limit (map f (drop (i + 1) xs)) on ≡ way_through limit (map f (drop i xs)) way
-  way_on way on e = ap (λ (k : ℕ). way_through limit (map f (drop k xs)) on) (add-one i)
-      ∙ ap (then_on (way_through limit (map f (drop (suc i) xs)))) e ∙ sym (next way)
+  way_on way on to e = ap (λ (k : ℕ). way_through limit (map f (drop k xs)) on) (add-one i)
+      ∙ ap (then_on (way_through limit (map f (drop (suc i) xs)))) e ∙ sym (next way to)
 
   -- where it leaves
-  pub way_out : (way : Way) → None ≡ past limit way (f (get_or xs i d) way.at) → None ≡ way_through limit (map f (drop i xs)) way
-  way_out way e = ap (then_on (way_through limit (map f (drop (suc i) xs)))) e ∙ sym (next way)
+  pub way_out : (way : Way) {to : Option Vec3} → to ≡ f x way.at → None ≡ past limit way to → None ≡ way_through limit (map f (drop i xs)) way
+  way_out way to e = ap (then_on (way_through limit (map f (drop (suc i) xs)))) e ∙ sym (next way to)
 
 pub way_all : {A : Type 0} (limit : ℤ) (f : A → Shape) (xs : List A) (i : ℕ) (way : Way) → length xs ≤ i
     → Some way ≡ way_through limit (map f (drop i xs)) way

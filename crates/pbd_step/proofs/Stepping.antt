@@ -19,7 +19,7 @@ use Rattle.pbd_step.proofs.Passes.{same_pass}
 
 -- ---- the end of a step
 
-pub no_flags : (n : ℕ) (ps : List Particle) → n ≡ length ps → replicate n false ≡ map {A = Particle} {B = Bool} (λ p. false) ps
+no_flags : (n : ℕ) (ps : List Particle) → n ≡ length ps → replicate n false ≡ map {A = Particle} {B = Bool} (λ p. false) ps
 no_flags zero [] e = refl
 no_flags zero (p ∷ ps) e = absurd (omega (arith, e))
 no_flags (suc n) [] e = absurd (omega (arith, e))
@@ -29,12 +29,12 @@ go_on : (w : World) (pairs : List (ℕ × ℕ)) (r s : Result Passing Refusal) �
     → (r >>= λ (p : Passing). Ok (settled w pairs (rub w.friction p))) ≡ (s >>= λ (p : Passing). Ok (settled w pairs (rub w.friction p)))
 go_on w pairs r s e = ap (λ (x : Result Passing Refusal). x >>= λ (p : Passing). Ok (settled w pairs (rub w.friction p))) e
 
-pub finished_is : (w : World) (pairs : List (ℕ × ℕ)) (m : Motion) (flags : List Bool) (r : Result Passing Refusal)
-    → flags ≡ map {A = Particle} {B = Bool} (λ p. false) m.particles
+pub finished_is : (w : World) (pairs : List (ℕ × ℕ)) (m : Motion) (flags : List Bool) (r : Result Passing Refusal) {n : ℕ}
+    → n ≡ length m.particles → flags ≡ replicate n false
     → repeated w.passes (pass w pairs) (record { motion = m; touched = flags }) ≡ r
     → finished w pairs m ≡ (r >>= λ (p : Passing). Ok (settled w pairs (rub w.friction p)))
-finished_is w pairs m flags r e h = go_on w pairs (repeated w.passes (pass w pairs) (untouched m)) r
-    (ap (λ (fs : List Bool). repeated w.passes (pass w pairs) (record { motion = m; touched = fs })) (sym e) ∙ h)
+finished_is w pairs m flags r {n} many e h = go_on w pairs (repeated w.passes (pass w pairs) (untouched m)) r
+    (ap (λ (fs : List Bool). repeated w.passes (pass w pairs) (record { motion = m; touched = fs })) (sym (e ∙ no_flags n m.particles many)) ∙ h)
 
 -- ---- the whole step
 

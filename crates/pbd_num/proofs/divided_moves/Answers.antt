@@ -1,5 +1,5 @@
 use Rattle.std.proofs.Common.{arith, ◌≡◌, ◌≤◌, ◌^◌, ◌+◌, ℤ, ◌+ℤ◌, ◌<ℤ◌, ◌≤ℤ◌, pos, unsigned_abs, to_z, of_z, w64, FitsSigned, sym, ap, inl}
-use Rattle.std.proofs.Common.{inr}
+use Rattle.std.proofs.Common.{inr, rules}
 use Rattle.std.proofs.lemmas.Int.{to_z-of_z, ints}
 use Rattle.pbd_num.specs.declared.Vec3.{Vec3}
 use Rattle.pbd_num.specs.Vectors.{Within}
@@ -8,6 +8,7 @@ use Rattle.pbd_num.proofs.Lengths.{length_below}
 use Rattle.pbd_num.proofs.VectorSizes.{word}
 use Rattle.pbd_num.proofs.Ways.{along-none, along-by_steps}
 use Rattle.pbd_num.proofs.divided_moves.Goals as goal
+use Rattle.pbd_num.proofs.divided_moves.Goals.{Start}
 
 -- two weights, and what they are together
 record Total (first second : ℤ) : Type 0 where
@@ -18,18 +19,19 @@ record Total (first second : ℤ) : Type 0 where
   high : unsigned_abs (first +ℤ second) ≤ 131070
   low : (of_z w64 (first +ℤ second) ≡ 0 → ⊥) → pos 0 <ℤ (first +ℤ second)
 
-total_of : (first second : ℤ) → pos 0 ≤ℤ first → first ≤ℤ pos 65535 → pos 0 ≤ℤ second → second ≤ℤ pos 65535 → Total first second
-total_of first second first_low first_high second_low second_high =
-    let sum = size-sum first second first_low second_low in
-    let a = size_at_most first 65535 first_low first_high in
-    let b = size_at_most second 65535 second_low second_high in
+total_of : (c : Start) → Total c.args.weights.first c.args.weights.second
+total_of c =
+    let r = c.requires in
+    let sum = size-sum c.args.weights.first c.args.weights.second r.first_low r.second_low in
+    let a = size_at_most c.args.weights.first 65535 r.first_low r.first_high in
+    let b = size_at_most c.args.weights.second 65535 r.second_low r.second_high in
     record {
       first_fits = fits _ (omega arith);
       second_fits = fits _ (omega arith);
       sum_fits = fits _ (omega arith);
       sum = sum;
       high = omega arith;
-      low = (λ some. let above = size_pos (first +ℤ second) some in omega (arith, ints));
+      low = (λ some. let above = size_pos (c.args.weights.first +ℤ c.args.weights.second) some in omega (arith, ints));
     }
 
 -- what a test against 0 says
@@ -65,7 +67,7 @@ asked v k w first second total within size low part some =
 pub returns-then-len-eq0-clause-moves : goal.returns-then-len-eq0-clause-moves
 returns-then-len-eq0-clause-moves c =
     let w = c.args.weights in
-    let total = total_of w.first w.second c.requires.first_low c.requires.first_high c.requires.second_low c.requires.second_high in
+    let total = total_of (goal.at.returns-then-len-eq0-clause-moves c).Start in
     let a = total.first_fits in
     let b = total.second_fits in
     let all = total.sum_fits in
@@ -78,12 +80,12 @@ returns-then-len-eq0-clause-moves c =
 pub returns-clause-moves : goal.returns-clause-moves
 returns-clause-moves c =
     let w = c.args.weights in
-    let total = total_of w.first w.second c.requires.first_low c.requires.first_high c.requires.second_low c.requires.second_high in
+    let total = total_of (goal.at.returns-clause-moves c).Start in
     let a = total.first_fits in
     let b = total.second_fits in
     let all = total.sum_fits in
     let k = fits c.args.pull.k (omega (arith, c.requires.stiffness)) in
-    let rest = fits c.args.pull.rest (omega (arith, size_at_most c.args.pull.rest (2 ^ 31) c.requires.rest_low c.requires.rest_high)) in
+    let rest : FitsSigned w64 c.args.pull.rest = search rules in
     along-by_steps c.args.way c.correction-s.result c.share-first.result c.share-second.result c.opposite.result
     c.args.pull.rest c.args.pull.k w.first w.second (unsigned_abs (w.first +ℤ w.second))
     (simp to_z-of_z at c.correction-s.ensures.value) (simp to_z-of_z at c.share-first.ensures.value)
@@ -97,20 +99,18 @@ returns-clause-first_size c = c.opposite.ensures.size (2 ^ 31) c.share-first.ens
 
 pub share-first-requires : goal.share-first-requires
 share-first-requires c =
-    let r = c.requires in
-    asked c.correction-s.result c.args.pull.k c.args.weights.first _ _ (total_of _ _ r.first_low r.first_high r.second_low r.second_high)
-    c.correction-s.ensures.size r.stiffness r.first_low (omega arith) c.if-total-eq0.false
+    asked c.correction-s.result c.args.pull.k c.args.weights.first _ _ (total_of (goal.at.share-first-requires c).Start)
+    c.correction-s.ensures.size c.requires.stiffness c.requires.first_low (omega arith) c.if-total-eq0.false
 
 pub share-second-requires : goal.share-second-requires
 share-second-requires c =
-    let r = c.requires in
-    asked c.correction-s.result c.args.pull.k c.args.weights.second _ _ (total_of _ _ r.first_low r.first_high r.second_low r.second_high)
-    c.correction-s.ensures.size r.stiffness r.second_low (omega arith) c.if-total-eq0.false
+    asked c.correction-s.result c.args.pull.k c.args.weights.second _ _ (total_of (goal.at.share-second-requires c).Start)
+    c.correction-s.ensures.size c.requires.stiffness c.requires.second_low (omega arith) c.if-total-eq0.false
 
 pub correction-s-requires : goal.correction-s-requires
 correction-s-requires c =
     let len = c.ranges.len in
-    let rest = fits c.args.pull.rest (omega (arith, size_at_most c.args.pull.rest (2 ^ 31) c.requires.rest_low c.requires.rest_high)) in
+    let rest : FitsSigned w64 c.args.pull.rest = search rules in
     record {
       size = c.requires.way;
       length = simp to_z-of_z c.requires.length;

@@ -5,6 +5,7 @@ use Rattle.pbd_num.proofs.Lengths.{shares_by_scaling}
 use Rattle.pbd_num.proofs.Ranges.{wider}
 use Rattle.pbd_num.proofs.VectorSizes.{word, times_within}
 use Rattle.pbd_num.proofs.share.Goals as goal
+use Rattle.pbd_num.proofs.share.Goals.{Start}
 
 -- what a share is a part of, and what part, as they come to stand in 64 bits
 record Fraction (k w total : ℤ) : Type 0 where
@@ -35,20 +36,21 @@ fraction k w total k_fits w_fits total_fits stiffness weight some high =
       less = omega (arith, top, bottom);
     }
 
-pub overflow_mul-k : goal.overflow_mul-k
-overflow_mul-k c =
+fraction_of : (c : Start) → Fraction c.args.k c.args.w c.args.total
+fraction_of c =
     let r = c.requires in
-    (fraction c.args.k c.args.w c.args.total c.ranges.k c.ranges.w c.ranges.total r.stiffness r.weight r.total_low r.total_high).part_fits
+    fraction c.args.k c.args.w c.args.total c.ranges.k c.ranges.w c.ranges.total r.stiffness r.weight r.total_low r.total_high
+
+pub overflow_mul-k : goal.overflow_mul-k
+overflow_mul-k c = (fraction_of (goal.at.overflow_mul-k c).Start).part_fits
 
 pub overflow_mul-total : goal.overflow_mul-total
-overflow_mul-total c =
-    let r = c.requires in
-    (fraction c.args.k c.args.w c.args.total c.ranges.k c.ranges.w c.ranges.total r.stiffness r.weight r.total_low r.total_high).whole_fits
+overflow_mul-total c = (fraction_of (goal.at.overflow_mul-total c).Start).whole_fits
 
 pub part_of-requires : goal.part_of-requires
 part_of-requires c =
     let r = c.requires in
-    let known = fraction c.args.k c.args.w c.args.total c.ranges.k c.ranges.w c.ranges.total r.stiffness r.weight r.total_low r.total_high in
+    let known = fraction_of (goal.at.part_of-requires c).Start in
     record {
       vector = wider c.args.s (2 ^ 31) (2 ^ 61) (omega arith) r.size;
       products = rw known.part_is
@@ -59,14 +61,12 @@ part_of-requires c =
 
 pub returns-clause-value : goal.returns-clause-value
 returns-clause-value c =
-    let r = c.requires in
-    let known = fraction c.args.k c.args.w c.args.total c.ranges.k c.ranges.w c.ranges.total r.stiffness r.weight r.total_low r.total_high in
+    let known = fraction_of (goal.at.returns-clause-value c).Start in
     (simp (known.part_is, known.whole_is) at c.part_of.ensures.value)
-    ∙ shares_by_scaling c.args.s c.args.k c.args.w c.args.total r.weight_low r.total_low
+    ∙ shares_by_scaling c.args.s c.args.k c.args.w c.args.total c.requires.weight_low c.requires.total_low
 
 pub returns-clause-size : goal.returns-clause-size
 returns-clause-size c =
-    let r = c.requires in
-    let known = fraction c.args.k c.args.w c.args.total c.ranges.k c.ranges.w c.ranges.total r.stiffness r.weight r.total_low r.total_high in
+    let known = fraction_of (goal.at.returns-clause-size c).Start in
     let size = simp (known.part_is, known.whole_is) at c.part_of.ensures.size in
-    size (2 ^ 31) known.less r.size
+    size (2 ^ 31) known.less c.requires.size

@@ -1,14 +1,14 @@
-use Rattle.std.proofs.Common.{◌≡◌, arith, ◌*ℤ◌, ◌-ℤ◌, ◌+◌, ◌-◌, ◌^◌, ◌≤◌, ◌<◌, unsigned_abs, ℤ, to_z, of_z, w32, w64, FitsSigned}
+use Rattle.std.proofs.Common.{◌≡◌, ◌∙◌, arith, ◌*ℤ◌, ◌-ℤ◌, ◌+◌, ◌-◌, ◌^◌, ◌≤◌, unsigned_abs, ℤ, w32, w64, FitsSigned}
 use Rattle.std.proofs.lemmas.Int.{to_z-of_z}
 use Rattle.pbd_num.proofs.Sizes.{fits, size-sub, size-mul, short_size}
 use Rattle.pbd_num.proofs.VectorSizes.{word}
 use Rattle.pbd_num.proofs.tried.rest_of.Goals as goal
 
 -- what comes to stand as it is, what fits, and how much a rest leaves
-record Rest (n length q : ℤ) : Type 0 where
+record Rest (n length q wide : ℤ) : Type 0 where
+  wide_is : wide ≡ q
   n_is : word n ≡ n
   length_is : word length ≡ length
-  short_is : to_z w32 (of_z w32 q) ≡ q
   quotient_is : word q ≡ q
   product : FitsSigned w64 (q *ℤ length)
   product_is : word (q *ℤ length) ≡ q *ℤ length
@@ -16,18 +16,18 @@ record Rest (n length q : ℤ) : Type 0 where
   rest_is : word (n -ℤ q *ℤ length) ≡ n -ℤ q *ℤ length
   size : unsigned_abs (n -ℤ q *ℤ length) + 2 ^ 31 ≤ 2 ^ 63
 
-rest_fits : (n length q : ℤ) → unsigned_abs n ≤ 2 ^ 62 → unsigned_abs length < 2 ^ 31 → FitsSigned w32 q → Rest n length q
-rest_fits n length q n_size length_size range =
-    let q_size = short_size q range in
-    let left = size-mul q length (2 ^ 31) (2 ^ 31 - 1) q_size (omega arith) in
-    let all = size-sub n (q *ℤ length) in
-    let product = fits (q *ℤ length) (omega arith) in
-    let rest = fits (n -ℤ q *ℤ length) (omega arith) in
+rest_fits : (c : goal.After-from) → Rest c.args.n c.args.length c.args.q c.from.result
+rest_fits c =
+    let q_size = short_size c.args.q c.ranges.q in
+    let left = size-mul c.args.q c.args.length (2 ^ 31) (2 ^ 31 - 1) q_size (omega arith) in
+    let all = size-sub c.args.n (c.args.q *ℤ c.args.length) in
+    let product = fits (c.args.q *ℤ c.args.length) (omega arith) in
+    let rest = fits (c.args.n -ℤ c.args.q *ℤ c.args.length) (omega arith) in
     record {
-      n_is = to_z-of_z w64 n (fits n (omega arith));
-      length_is = to_z-of_z w64 length (fits length (omega arith));
-      short_is = to_z-of_z w32 q range;
-      quotient_is = to_z-of_z w64 q (fits q (omega arith));
+      wide_is = c.from.ensures ∙ to_z-of_z w32 c.args.q c.ranges.q;
+      n_is = to_z-of_z w64 _ (fits c.args.n (omega arith));
+      length_is = to_z-of_z w64 _ (fits c.args.length (omega arith));
+      quotient_is = to_z-of_z w64 _ (fits c.args.q (omega arith));
       product = product;
       product_is = to_z-of_z w64 _ product;
       rest = rest;
@@ -36,23 +36,17 @@ rest_fits n length q n_size length_size range =
     }
 
 pub overflow_mul-result : goal.overflow_mul-result
-overflow_mul-result c =
-    let known = rest_fits c.args.n c.args.length c.args.q c.requires.size c.requires.length c.ranges.q in
-    let is = simp known.short_is at c.from.ensures in
-    simp (is, known.quotient_is, known.length_is) known.product
+overflow_mul-result c = let known = rest_fits c in simp (known.wide_is, known.quotient_is, known.length_is) known.product
 
 pub overflow_sub-result : goal.overflow_sub-result
 overflow_sub-result c =
-    let known = rest_fits c.args.n c.args.length c.args.q c.requires.size c.requires.length c.ranges.q in
-    let is = simp known.short_is at c.from.ensures in
-    simp (is, known.n_is, known.length_is, known.quotient_is, known.product_is) known.rest
+    let known = rest_fits c in
+    simp (known.wide_is, known.n_is, known.length_is, known.quotient_is, known.product_is) known.rest
 
 pub returns-clause-value : goal.returns-clause-value
 returns-clause-value c =
-    let known = rest_fits c.args.n c.args.length c.args.q c.requires.size c.requires.length c.ranges.q in
-    let is = simp known.short_is at c.from.ensures in
-    simp (is, known.n_is, known.length_is, known.quotient_is, known.product_is, known.rest_is)
+    let known = rest_fits c in
+    simp (known.wide_is, known.n_is, known.length_is, known.quotient_is, known.product_is, known.rest_is)
 
 pub returns-clause-size : goal.returns-clause-size
-returns-clause-size c =
-    rw (returns-clause-value c) (rest_fits c.args.n c.args.length c.args.q c.requires.size c.requires.length c.ranges.q).size
+returns-clause-size c = rw (returns-clause-value c) (rest_fits c).size

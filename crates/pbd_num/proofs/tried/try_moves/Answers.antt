@@ -1,18 +1,22 @@
-use Rattle.std.proofs.Common.{arith, ◌≡◌, ◌∙◌, ap, sym, refl, ◌^◌, pos, ◌*ℤ◌, ◌<ℤ◌, w32, IsTrue, Bool, ◌&&◌, FitsSigned, w64, ◌≤ℤ◌, ◌≤◌, ℤ}
-use Rattle.std.proofs.Common.{unsigned_abs, to_z, of_z}
+use Rattle.std.proofs.Common.{arith, ◌≡◌, ◌∙◌, ap, sym, refl, ◌^◌, pos, ◌*ℤ◌, ◌-ℤ◌, ◌<ℤ◌, w32, IsTrue, Bool, ◌&&◌, FitsSigned, w64, ◌≤ℤ◌, ◌≤◌, ℤ}
+use Rattle.std.proofs.Common.{unsigned_abs, to_z, of_z, rules}
 use Rattle.std.proofs.lemmas.Int.{ints, to_z-of_z, fits_signed_from_abs}
 use Rattle.std.proofs.lemmas.Bool.{and_parts}
 use Rattle.pbd_num.specs.Vectors.{Within, opposite, length_of, zero_vector}
 use Rattle.pbd_num.specs.declared.Vec3.{Vec3}
-use Rattle.pbd_num.proofs.Sizes.{fits, fits_from_zero, size_at_most}
-use Rattle.pbd_num.proofs.VectorSizes.{FitAxes, fit_axes, words_within}
+use Rattle.pbd_num.proofs.Sizes.{fits, size_at_most}
+use Rattle.pbd_num.proofs.Ranges.{wider}
+use Rattle.pbd_num.proofs.VectorSizes.{FitAxes, fit_axes, word, words_within}
 use Rattle.pbd_num.proofs.Ends.{Even, parts_of, same_axes, both_moves, no_move, part_of_none}
 use Rattle.pbd_num.proofs.tried.try_moves.Goals as goal
-use Rattle.pbd_num.proofs.tried.try_moves.Goals.{After-factor-factor}
+use Rattle.pbd_num.proofs.tried.try_moves.Goals.{After-factor-factor, After-try_part-z}
 
 -- the parts as they are guessed, and whether all is right
+abbrev parts : After-try_part-z → Vec3
+parts c = record { x = c.try_part-x.result.part; y = c.try_part-y.result.part; z = c.try_part-z.result.part }
+
 abbrev guessed : goal.After-struct_told-12-1 → Vec3
-guessed c = record { x = c.try_part-x.result.part; y = c.try_part-y.result.part; z = c.try_part-z.result.part }
+guessed c = parts (goal.at.returns-clause-moves c).After-try_part-z
 
 abbrev all_exact : goal.After-struct_told-12-1 → Bool
 all_exact c = c.try_length-tried.result.exact && c.are_even.result && c.try_part-x.result.exact && c.try_part-y.result.exact
@@ -38,8 +42,8 @@ short_size : (x axis : ℤ) → x ≡ axis → unsigned_abs axis ≤ 2 ^ 30 → 
 short_size x axis is size = rw is size
 
 -- what fits
-length_fits : (c : goal.After-struct_told-12-1) → FitsSigned w64 c.try_length-tried.result.length
-length_fits c = fits_from_zero c.try_length-tried.result.length c.try_length-tried.ensures.low c.try_length-tried.ensures.high
+factor_fits : (c : After-factor-factor) → FitsSigned w32 c.factor-factor.result
+factor_fits c = fits_signed_from_abs w32 c.factor-factor.result (omega (arith, c.factor-factor.ensures.size))
 
 first_fits : (c : goal.After-struct_told-12-1) → FitsSigned w64 c.args.weights.first
 first_fits c = fits _ (omega (arith, size_at_most c.args.weights.first 65535 c.requires.first_low c.requires.first_high))
@@ -47,9 +51,24 @@ first_fits c = fits _ (omega (arith, size_at_most c.args.weights.first 65535 c.r
 second_fits : (c : goal.After-struct_told-12-1) → FitsSigned w64 c.args.weights.second
 second_fits c = fits _ (omega (arith, size_at_most c.args.weights.second 65535 c.requires.second_low c.requires.second_high))
 
-parts_fit : (c : goal.After-struct_told-12-1) → FitAxes (guessed c)
-parts_fit c = fit_axes (guessed c) (2 ^ 31) (omega arith)
-    (record { x = c.try_part-x.ensures.size; y = c.try_part-y.ensures.size; z = c.try_part-z.ensures.size })
+parts_within : (c : After-try_part-z) → Within (2 ^ 31) (parts c)
+parts_within c = record { x = c.try_part-x.ensures.size; y = c.try_part-y.ensures.size; z = c.try_part-z.ensures.size }
+
+parts_fit : (c : After-try_part-z) → FitAxes (parts c)
+parts_fit c = fit_axes (parts c) (2 ^ 31) (omega arith) (parts_within c)
+
+-- the length and its error as they are handed on
+stretched : (c : After-factor-factor) → record {
+  length : c.stretch_of-stretch.result.length ≡ c.try_length-tried.result.length;
+  error : c.stretch_of-stretch.result.error ≡ c.try_length-tried.result.length -ℤ c.args.pull.rest;
+}
+stretched c =
+    let length : FitsSigned w64 c.try_length-tried.result.length = search rules in
+    let rest : FitsSigned w64 c.args.pull.rest = search rules in
+    record {
+      length = simp to_z-of_z at c.stretch_of-stretch.ensures.length;
+      error = simp to_z-of_z at c.stretch_of-stretch.ensures.error;
+    }
 
 -- the length
 length_is : (c : goal.After-struct_told-12-1) → Right c → c.try_length-tried.result.length ≡ pos (length_of c.args.way)
@@ -61,32 +80,26 @@ length_is c right =
 parted : (c : goal.After-struct_told-12-1) → Right c
     → guessed c ≡ parts_of c.args.way c.try_length-tried.result.length c.args.pull.rest c.factor-factor.result
 parted c right =
-    let l_fits = length_fits c in
-    let axes = parts_fit c in
-    let x_fits = axes.x in
-    let y_fits = axes.y in
-    let z_fits = axes.z in
-    let rest_fits = fits c.args.pull.rest (omega (arith, size_at_most c.args.pull.rest (2 ^ 31) c.requires.rest_low c.requires.rest_high))
-    in
-    let f_fits = fits_signed_from_abs w32 c.factor-factor.result (omega (arith, c.factor-factor.ensures.size)) in
+    let at = (goal.at.returns-clause-moves c).After-factor-factor in
+    let f_fits = factor_fits at in
     let way_x = fits_signed_from_abs w32 c.short_way-way.result.x
     (omega (arith, short_size _ _ c.short_way-way.ensures.x c.requires.way.x)) in
     let way_y = fits_signed_from_abs w32 c.short_way-way.result.y
     (omega (arith, short_size _ _ c.short_way-way.ensures.y c.requires.way.y)) in
     let way_z = fits_signed_from_abs w32 c.short_way-way.result.z
     (omega (arith, short_size _ _ c.short_way-way.ensures.z c.requires.way.z)) in
-    let long = simp to_z-of_z at c.stretch_of-stretch.ensures.length in
-    let error = simp to_z-of_z at c.stretch_of-stretch.ensures.error in
-    let some : pos 0 <ℤ c.stretch_of-stretch.result.length = rw long (c.try_length-tried.ensures.some right.length) in
+    let stretch = stretched at in
+    let some : pos 0 <ℤ c.stretch_of-stretch.result.length = rw stretch.length (c.try_length-tried.ensures.some right.length) in
     let vx = simp to_z-of_z at (c.try_part-x.ensures.value right.x some) in
     let vy = simp to_z-of_z at (c.try_part-y.ensures.value right.y some) in
     let vz = simp to_z-of_z at (c.try_part-z.ensures.value right.z some) in
     let same = c.short_way-way.ensures in
-    same_axes _ _ (vx ∙ rw (error, long, same.x) refl) (vy ∙ rw (error, long, same.y) refl) (vz ∙ rw (error, long, same.z) refl)
+    same_axes _ _ (vx ∙ rw (stretch.error, stretch.length, same.x) refl) (vy ∙ rw (stretch.error, stretch.length, same.y) refl)
+    (vz ∙ rw (stretch.error, stretch.length, same.z) refl)
 
 turned : (c : goal.After-struct_told-12-1) → c.opposite.result ≡ opposite (guessed c)
 turned c =
-    let axes = parts_fit c in
+    let axes = parts_fit (goal.at.returns-clause-moves c).After-try_part-z in
     let x = axes.x in
     let y = axes.y in
     let z = axes.z in
@@ -103,7 +116,7 @@ moves_are : (c : goal.After-struct_told-12-1) → Moves c
 moves_are c =
     let first = first_fits c in
     let second = second_fits c in
-    let axes = parts_fit c in
+    let axes = parts_fit (goal.at.returns-clause-moves c).After-try_part-z in
     let x = axes.x in
     let y = axes.y in
     let z = axes.z in
@@ -115,15 +128,12 @@ moves_are c =
     }
 
 -- what the factor is
-even_factor : (c : goal.After-struct_told-12-1) → Right c → c.try_length-tried.result.length <ℤ c.args.pull.reach
+even_factor : (c : goal.After-struct_told-12-1) → Right c → c.pulled.result ≡ c.args.pull.k
     → Even c.args.weights.first c.args.weights.second c.args.pull.k c.factor-factor.result
-even_factor c right near =
-    let l_fits = length_fits c in
+even_factor c right k_is =
     let first = first_fits c in
     let second = second_fits c in
-    let k_fits = fits c.pulled.result (omega (arith, c.pulled.ensures.size)) in
-    let pulled = simp to_z-of_z at c.pulled.ensures.near in
-    let k_is = pulled near in
+    let k : FitsSigned w64 c.pulled.result = search rules in
     let both = simp to_z-of_z at c.factor-factor.ensures.both in
     let by_first = simp to_z-of_z at c.factor-factor.ensures.first in
     let by_second = simp to_z-of_z at c.factor-factor.ensures.second in
@@ -137,22 +147,17 @@ even_factor c right near =
       by_second = (λ e. by_second e ∙ ap (λ k. pos 2 *ℤ k) k_is);
     }
 
-no_parts : (c : goal.After-struct_told-12-1) → Right c → c.args.pull.reach ≤ℤ c.try_length-tried.result.length → guessed c ≡ zero_vector
-no_parts c right far =
-    let l_fits = length_fits c in
-    let k_fits = fits c.pulled.result (omega (arith, c.pulled.ensures.size)) in
-    let none = simp to_z-of_z at c.factor-factor.ensures.none in
-    let unpulled = simp to_z-of_z at c.pulled.ensures.far in
-    let f_is = none (unpulled far) in
+no_parts : (c : goal.After-struct_told-12-1) → Right c → c.pulled.result ≡ pos 0 → guessed c ≡ zero_vector
+no_parts c right none =
+    let f_is = c.factor-factor.ensures.none (ap (λ (k : ℤ). word k) none) in
     let is = parted c right in
     same_axes _ _ (part_of_none _ _ _ f_is (ap (λ v. v.x) is)) (part_of_none _ _ _ f_is (ap (λ v. v.y) is))
     (part_of_none _ _ _ f_is (ap (λ v. v.z) is))
 
 pub stretch_of-stretch-requires : goal.stretch_of-stretch-requires
 stretch_of-stretch-requires c =
-    let l_fits = fits_from_zero c.try_length-tried.result.length c.try_length-tried.ensures.low c.try_length-tried.ensures.high in
-    let rest_fits = fits c.args.pull.rest (omega (arith, size_at_most c.args.pull.rest (2 ^ 31) c.requires.rest_low c.requires.rest_high))
-    in
+    let length : FitsSigned w64 c.try_length-tried.result.length = search rules in
+    let rest : FitsSigned w64 c.args.pull.rest = search rules in
     record {
       low = simp to_z-of_z c.try_length-tried.ensures.low;
       high = simp to_z-of_z c.try_length-tried.ensures.high;
@@ -161,9 +166,7 @@ stretch_of-stretch-requires c =
     }
 
 pub factor-factor-requires : goal.factor-factor-requires
-factor-factor-requires c =
-    let k_fits = fits c.pulled.result (omega (arith, c.pulled.ensures.size)) in
-    record { k = simp to_z-of_z c.pulled.ensures.size }
+factor-factor-requires c = record { k = rw (to_z-of_z w64 c.pulled.result (search rules)) c.pulled.ensures.size }
 
 -- what the part of one axis asks
 pulled : (c : After-factor-factor) (axis : ℤ) → unsigned_abs axis ≤ 2 ^ 30 → record {
@@ -174,13 +177,12 @@ pulled : (c : After-factor-factor) (axis : ℤ) → unsigned_abs axis ≤ 2 ^ 30
   f : unsigned_abs (to_z w32 (of_z w32 c.factor-factor.result)) ≤ 512;
 }
 pulled c axis size =
-    let l_fits = fits_from_zero c.try_length-tried.result.length c.try_length-tried.ensures.low c.try_length-tried.ensures.high in
     let axis_fits = fits_signed_from_abs w32 axis (omega (arith, size)) in
-    let f_fits = fits_signed_from_abs w32 c.factor-factor.result (omega (arith, c.factor-factor.ensures.size)) in
-    let is = simp to_z-of_z at c.stretch_of-stretch.ensures.length in
+    let f_fits = factor_fits c in
+    let long = (stretched c).length in
     record {
-      low = rw is c.try_length-tried.ensures.low;
-      high = rw is c.try_length-tried.ensures.high;
+      low = rw long c.try_length-tried.ensures.low;
+      high = rw long c.try_length-tried.ensures.high;
       error = c.stretch_of-stretch.ensures.fits;
       axis = simp to_z-of_z size;
       f = simp to_z-of_z c.factor-factor.ensures.size;
@@ -203,63 +205,47 @@ try_part-z-requires c =
 
 pub opposite-requires : goal.opposite-requires
 opposite-requires c =
-    words_within (record { x = c.try_part-x.result.part; y = c.try_part-y.result.part; z = c.try_part-z.result.part }) (2 ^ 61)
-    (omega arith)
-    (record {
-      x = omega (arith, c.try_part-x.ensures.size);
-      y = omega (arith, c.try_part-y.ensures.size);
-      z = omega (arith, c.try_part-z.ensures.size);
-    })
+    let at = (goal.at.opposite-requires c).After-try_part-z in
+    words_within (parts at) (2 ^ 61) (omega arith) (wider (parts at) (2 ^ 31) (2 ^ 61) (omega arith) (parts_within at))
 
 pub moved-requires : goal.moved-requires
 moved-requires c =
-    let sizes : Within (2 ^ 31) (record { x = c.try_part-x.result.part; y = c.try_part-y.result.part; z = c.try_part-z.result.part }) =
-    record { x = c.try_part-x.ensures.size; y = c.try_part-y.ensures.size; z = c.try_part-z.ensures.size } in
-    let fit = fit_axes (record { x = c.try_part-x.result.part; y = c.try_part-y.result.part; z = c.try_part-z.result.part }) (2 ^ 31)
-    (omega arith) sizes in
-    let x = fit.x in
-    let y = fit.y in
-    let z = fit.z in
+    let at = (goal.at.moved-requires c).After-try_part-z in
+    let axes = parts_fit at in
+    let x = axes.x in
+    let y = axes.y in
+    let z = axes.z in
     let size = simp to_z-of_z at c.opposite.ensures.size in
-    size (2 ^ 31) sizes
+    size (2 ^ 31) (parts_within at)
 
 pub moved-requires-2 : goal.moved-requires-2
 moved-requires-2 c =
-    words_within (record { x = c.try_part-x.result.part; y = c.try_part-y.result.part; z = c.try_part-z.result.part }) (2 ^ 31)
-    (omega arith)
-    (record { x = c.try_part-x.ensures.size; y = c.try_part-y.ensures.size; z = c.try_part-z.ensures.size })
+    let at = (goal.at.moved-requires-2 c).After-try_part-z in
+    words_within (parts at) (2 ^ 31) (omega arith) (parts_within at)
 
 pub returns-clause-length : goal.returns-clause-length
-returns-clause-length c right =
-    let l_fits = length_fits c in
-    simp to_z-of_z (length_is c (each_right c right))
+returns-clause-length c right = to_z-of_z w64 c.try_length-tried.result.length (search rules) ∙ length_is c (each_right c right)
 
 pub returns-clause-moves : goal.returns-clause-moves
 returns-clause-moves c right near =
-    let l_fits = length_fits c in
-    let near' = simp to_z-of_z at near in
     let all = each_right c right in
     let moves = moves_are c in
     both_moves c.args.way (guessed c) c.opposite.result c.moved.result c.moved-2.result
     c.try_length-tried.result.length c.args.pull.rest c.args.weights.first c.args.weights.second c.args.pull.k c.factor-factor.result
-    (length_is c all) (c.try_length-tried.ensures.some all.length) (even_factor c all near') (parted c all) (turned c)
+    (length_is c all) (c.try_length-tried.ensures.some all.length) (even_factor c all (c.pulled.ensures.near near)) (parted c all) (turned c)
     moves.first_free moves.first_held moves.second_free moves.second_held
 
 pub returns-clause-first_rests : goal.returns-clause-first_rests
 returns-clause-first_rests c right far =
-    let l_fits = length_fits c in
-    let far' = simp to_z-of_z at far in
     let moves = moves_are c in
     no_move c.opposite.result c.moved.result c.args.weights.first c.requires.first_low
-    (turned c ∙ ap opposite (no_parts c (each_right c right) far')) moves.first_free moves.first_held
+    (turned c ∙ ap opposite (no_parts c (each_right c right) (c.pulled.ensures.far far))) moves.first_free moves.first_held
 
 pub returns-clause-second_rests : goal.returns-clause-second_rests
 returns-clause-second_rests c right far =
-    let l_fits = length_fits c in
-    let far' = simp to_z-of_z at far in
     let moves = moves_are c in
     no_move (guessed c) c.moved-2.result c.args.weights.second c.requires.second_low
-    (no_parts c (each_right c right) far') moves.second_free moves.second_held
+    (no_parts c (each_right c right) (c.pulled.ensures.far far)) moves.second_free moves.second_held
 
 pub returns-clause-first_held : goal.returns-clause-first_held
 returns-clause-first_held c e =

@@ -1,21 +1,13 @@
-use Rattle.std.proofs.Common.{arith, w64, FitsSigned, ◌-ℤ◌, sym, ap, ◌∙◌, ℤ}
-use Rattle.std.proofs.lemmas.Int.{to_z-of_z}
-use Rattle.pbd_num.proofs.Sizes.{fits, size-sub}
-use Rattle.pbd_shape.proofs.Moves.{plane_clears}
+use Rattle.std.proofs.Common.{sym, ◌∙◌}
+use Rattle.pbd_shape.proofs.Moves.{Lacks, lacks, plane_clears}
+use Rattle.pbd_shape.proofs.plane.reaches.Goals.{After-dot}
 use Rattle.pbd_shape.proofs.plane.reaches.Goals as goal
 
+lack : (c : After-dot) → Lacks c.args.plane c.args.p c.dot.result
+lack c = lacks c.args.plane c.args.p c.dot.result c.requires.plane.offset c.dot.ensures.size c.dot.ensures.value
+
 pub overflow_sub-plane : goal.overflow_sub-plane
-overflow_sub-plane c =
-    let offset = fits c.args.plane.offset (omega (arith, c.requires.plane.offset)) in
-    let d : FitsSigned w64 c.dot.result = record { sfits = c.dot.type_inv } in
-    simp to_z-of_z (fits (c.args.plane.offset -ℤ c.dot.result)
-    (omega (arith, size-sub c.args.plane.offset c.dot.result, c.requires.plane.offset, c.dot.ensures.size)))
+overflow_sub-plane c = (lack (goal.at.overflow_sub-plane c).After-dot).fits_signed
 
 pub returns : goal.returns
-returns c =
-    let offset = fits c.args.plane.offset (omega (arith, c.requires.plane.offset)) in
-    let d : FitsSigned w64 c.dot.result = record { sfits = c.dot.type_inv } in
-    let lack = fits (c.args.plane.offset -ℤ c.dot.result) (omega
-    (arith, size-sub c.args.plane.offset c.dot.result, c.requires.plane.offset, c.dot.ensures.size)) in
-    let told = simp to_z-of_z at c.is_behind.ensures in
-    λ e. sym (plane_clears c.args.plane c.args.p (ap (λ (n : ℤ). c.args.plane.offset -ℤ n) c.dot.ensures.value) (sym told ∙ e))
+returns c = λ e. sym (plane_clears c.args.plane c.args.p (lack (goal.at.returns c).After-dot).is (sym c.is_behind.ensures ∙ e))

@@ -1,7 +1,5 @@
-use Rattle.std.proofs.Common.{◌∙◌, sym, ap, subst, refl, arith, Option}
+use Rattle.std.proofs.Common.{◌∙◌, sym, subst, refl, arith}
 use Rattle.std.proofs.lemmas.List.Elements.{All-get_or}
-use Rattle.pbd_num.specs.declared.Vec3.{Vec3}
-use Rattle.pbd_world.specs.Shapes.{past}
 use Rattle.pbd_store.specs.Blocks.{place_of}
 use Rattle.pbd_shape.specs.Way.{starting}
 use Rattle.pbd_shape.proofs.Ways.{way_on, way_all}
@@ -28,10 +26,8 @@ loop-shape-preserved g c =
     let at = c.args.at.now in
     λ limit j lt.
     let start = starting (place_of at.x at.y at.z j) in
-    way_on limit g.S.Touch.shape c.args.shapes.now c.loop-shape.shape-index c.shape-item.result c.loop-shape-test.true start start
-    (ap {A = Option Vec3} (past limit start) (sym (c.one_touches.ensures c.if-one_touches.false j lt)
-    ∙ (λ i. g.S.Touch.shape (c.shape-item.is i) start.at)))
-    ∙ c.loop-shape.invariant limit j lt
+    way_on limit g.S.Touch.shape c.args.shapes.now c.loop-shape.shape-index c.loop-shape-test.true c.shape-item.is start start
+    (sym (c.one_touches.ensures c.if-one_touches.false j lt)) refl ∙ c.loop-shape.invariant limit j lt
 
 pub returns : goal.returns
 returns g c =

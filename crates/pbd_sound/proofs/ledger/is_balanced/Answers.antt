@@ -10,11 +10,8 @@ returns-then-not-is_sum_within-clause-value g c =
     c.requires.now (sym c.is_sum_within.ensures ∙ c.if-not-is_sum_within.true)
 
 pub balanced-requires : goal.balanced-requires
-balanced-requires g c =
-    let o = sum_of c.args.opening.now in
-    let t = ledger_of c.args.totals.now in
-    c.sums_with_room_fit.ensures o t (weaker (2 ^ 84) (2 ^ 120) o (omega arith) c.requires.opening)
-    (room_for_sums t c.requires.totals (sym c.is_sum_within.ensures ∙ c.if-not-is_sum_within.false))
+balanced-requires g c = c.sums_with_room_fit.ensures _ _ (weaker (2 ^ 84) (2 ^ 120) _ (omega arith) c.requires.opening)
+    (room_for_sums _ c.requires.totals (sym c.is_sum_within.ensures ∙ c.if-not-is_sum_within.false))
 
 pub returns-clause-value : goal.returns-clause-value
 returns-clause-value g c =

@@ -1,4 +1,4 @@
-use Rattle.std.proofs.Common.{◌^◌, ◌≤◌, ◌*ℤ◌, arith, unsigned_abs}
+use Rattle.std.proofs.Common.{◌^◌, ◌*ℤ◌, arith}
 use Rattle.std.proofs.lemmas.Int.{to_z-of_z}
 use Rattle.pbd_num.proofs.Sizes.{fits, size-mul}
 use Rattle.pbd_step.proofs.predict.product.Goals as goal
@@ -12,9 +12,4 @@ returns-clause-value c =
 
 pub returns-clause-size : goal.returns-clause-size
 returns-clause-size c =
-    let g = fits c.args.g (omega (arith, c.requires.g)) in
-    let n = fits c.args.n (omega (arith, c.requires.n)) in
-    let size : unsigned_abs (c.args.g *ℤ c.args.n) ≤ 2 ^ 45 =
-    omega (arith, size-mul c.args.g c.args.n (2 ^ 29) 65536 c.requires.g c.requires.n) in
-    let both = fits (c.args.g *ℤ c.args.n) (omega (arith, size)) in
-    simp to_z-of_z size
+    rw (returns-clause-value c) (omega (arith, size-mul c.args.g c.args.n (2 ^ 29) 65536 c.requires.g c.requires.n))

@@ -1,9 +1,22 @@
-use Rattle.std.proofs.Common.{◌≡◌, ◌∙◌, ◌<◌, sym, ap, subst, refl, Bool, List, get_or, length, arith}
-use Rattle.pbd_world.specs.Lending.{overwritten_is}
+use Rattle.std.proofs.Common.{◌∙◌, ◌<◌, sym, ap, subst, refl, Bool, List, get_or, length, arith}
+use Rattle.pbd_world.specs.Lending.{overwritten}
 use Rattle.pbd_world.specs.Colours.{live_at}
 use Rattle.pbd_colour.specs.Pairs.{Coloured, dropped}
-use Rattle.pbd_colour.proofs.KeptLemmas.{live_below, InRange-as, ArePainted-as, Holds-as, IsColoured-read, painted_within}
+use Rattle.pbd_colour.specs.Swept.{ArePainted}
+use Rattle.pbd_colour.proofs.KeptLemmas.{live_below, written, InRange-as, ArePainted-as, Holds-as, IsColoured-read, IsWritten, painted_within}
+use Rattle.pbd_colour.proofs.colouring.Colouring.drop_pairs.Goals.{After-take_out, After-mend}
 use Rattle.pbd_colour.proofs.colouring.Colouring.drop_pairs.Goals as goal
+
+-- what the loans leave
+live_written : (c : After-take_out) → IsWritten c.self.inside.live.entries c.take_out.new.live (length c.self.inside.pairs.entries)
+live_written c = written c.take_out.new.live c.take_out.auto.live c.as_mut_slice.ensures.value c.self.invariant.live_length
+
+colours_written : (c : After-mend) → IsWritten c.self.inside.colours.entries c.mend.new.colours (length c.self.inside.pairs.entries)
+colours_written c = written c.mend.new.colours c.mend.auto.colours c.as_mut_slice-2.ensures.value c.self.invariant.colours_length
+
+painted : (c : After-mend) → ArePainted c.self.inside.pairs.entries (overwritten c.self.inside.live.entries c.take_out.new.live)
+    (overwritten c.self.inside.colours.entries c.mend.new.colours)
+painted c = ArePainted-as c.as_slice-2.ensures c.as_slice-3.ensures (sym (colours_written c).is) c.mend.ensures.painted
 
 pub take_out-requires : goal.take_out-requires
 take_out-requires c =
@@ -23,14 +36,14 @@ pub mend-requires : goal.mend-requires
 mend-requires c =
     let i = c.self.invariant in
     let held = c.take_out.ensures.held in
-    let written = c.take_out.auto.live ∙ ap length c.as_mut_slice.ensures.value in
-    let live = sym (c.as_slice-3.ensures ∙ overwritten_is c.self.inside.live.entries c.take_out.new.live written) in
+    let kept = live_written (goal.at.mend-requires c).After-take_out in
+    let live = sym (c.as_slice-3.ensures ∙ kept.is) in
     let count = ap length c.as_slice-2.ensures in
     record {
       held = record {
         few = omega (arith, count, i.within, i.few);
         in_range = InRange-as (sym (held.count ∙ i.held.count)) (sym c.as_slice-2.ensures) i.in_range;
-        flags = ap length (sym live) ∙ written ∙ i.live_length ∙ sym count;
+        flags = ap length c.as_slice-3.ensures ∙ kept.long ∙ sym count;
         held = Holds-as live (sym held.count) (sym held.items) (c.as_slice.ensures ∙ sym c.as_slice-2.ensures) held;
       };
       in_range = λ k l. omega (
@@ -52,15 +65,11 @@ mend-requires c =
 pub gather-requires : goal.gather-requires
 gather-requires c =
     let i = c.self.invariant in
-    let live_size = c.take_out.auto.live ∙ ap length c.as_mut_slice.ensures.value in
-    let live = overwritten_is c.self.inside.live.entries c.take_out.new.live live_size in
-    let colours_size = c.mend.auto.colours ∙ ap length c.as_mut_slice-2.ensures.value in
-    let colours = overwritten_is c.self.inside.colours.entries c.mend.new.colours colours_size in
-    let flags = ap length live ∙ live_size ∙ i.live_length in
+    let at = goal.at.gather-requires c in
+    let flags = (live_written at.After-take_out).long in
     rw (c.as_slice-4.ensures, c.as_slice-5.ensures) (record {
-      colours = ap length colours ∙ colours_size ∙ i.colours_length ∙ sym flags;
-      within = painted_within c.self.inside.pairs.entries _ _
-          (ArePainted-as c.as_slice-2.ensures c.as_slice-3.ensures (sym colours) c.mend.ensures.painted) flags;
+      colours = (colours_written at.After-mend).long ∙ sym flags;
+      within = painted_within c.self.inside.pairs.entries _ _ (painted at.After-mend) flags;
       few = omega (arith, flags, i.within, i.few);
       numbers = omega (arith, flags, i.within, i.order_room);
       starts = ap length c.as_mut_slice-3.ensures.value ∙ i.starts_length;
@@ -69,16 +78,9 @@ gather-requires c =
 pub invariant_of-self : goal.invariant_of-self
 invariant_of-self c =
     let i = c.self.invariant in
-    let live_size : length c.take_out.new.live ≡ length c.self.inside.live.entries = c.take_out.auto.live
-    ∙ ap length c.as_mut_slice.ensures.value in
-    let colours_size : length c.mend.new.colours ≡ length c.self.inside.colours.entries = c.mend.auto.colours
-    ∙ ap length c.as_mut_slice-2.ensures.value in
-    let starts_size : length c.gather.new.starts ≡ length c.self.inside.starts.entries = c.gather.auto.starts
-    ∙ ap length c.as_mut_slice-3.ensures.value in
-    let live = overwritten_is c.self.inside.live.entries c.take_out.new.live live_size in
-    let colours = overwritten_is c.self.inside.colours.entries c.mend.new.colours colours_size in
-    let starts = overwritten_is c.self.inside.starts.entries c.gather.new.starts starts_size in
-    let flags = ap length live ∙ live_size ∙ i.live_length in
+    let at = goal.at.invariant_of-self c in
+    let flags = live_written at.After-take_out in
+    let starts = written c.gather.new.starts c.gather.auto.starts c.as_mut_slice-3.ensures.value i.starts_length in
     record {
       few = i.few;
       within = i.within;
@@ -87,26 +89,23 @@ invariant_of-self c =
       marks_room = c.mend.ensures.sized.room ∙ i.marks_room;
       colours_room = i.colours_room;
       order_room = c.gather.ensures.room ∙ i.order_room;
-      live_length = flags;
+      live_length = flags.long;
       marks_length = c.mend.ensures.sized.count ∙ i.marks_length;
       unmarked = c.mend.ensures.unmarked;
-      colours_length = ap length colours ∙ colours_size ∙ i.colours_length;
+      colours_length = (colours_written at.After-mend).long;
       used_length = i.used_length;
       toward_length = i.toward_length;
-      starts_length = ap length starts ∙ starts_size ∙ i.starts_length;
+      starts_length = starts.long;
       in_range = i.in_range;
-      coloured = IsColoured-read c.as_slice-4.ensures c.as_slice-5.ensures starts flags
-          (ArePainted-as c.as_slice-2.ensures c.as_slice-3.ensures (sym colours) c.mend.ensures.painted)
+      coloured = IsColoured-read c.as_slice-4.ensures c.as_slice-5.ensures starts.is flags.long (painted at.After-mend)
           c.gather.ensures.entries c.gather.ensures.starts;
       told = i.told;
-      held = Holds-as (sym live) i.held.count i.held.items c.as_slice.ensures c.take_out.ensures.held;
+      held = Holds-as (sym flags.is) i.held.count i.held.items c.as_slice.ensures c.take_out.ensures.held;
     }
 
 pub returns : goal.returns
 returns c =
-    let size : length c.take_out.new.live ≡ length c.self.inside.live.entries = c.take_out.auto.live
-    ∙ ap length c.as_mut_slice.ensures.value in
-    let live = overwritten_is c.self.inside.live.entries c.take_out.new.live size ∙ c.take_out.ensures.live
+    let live = (live_written (goal.at.returns c).After-take_out).is ∙ c.take_out.ensures.live
     ∙ ap (dropped c.args.sorted.now) c.as_mut_slice.ensures.value in
     let colouring : List Bool → Coloured = λ bs. record {
       particles = c.self.inside.particles;

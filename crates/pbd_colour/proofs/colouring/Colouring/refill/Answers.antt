@@ -1,12 +1,12 @@
 use Rattle.std.proofs.Common.{◌≡◌, ◌∙◌, ◌/◌, ◌&&◌, eqb, sym, ap, subst, true, false, Bool, ℕ, List, length, arith}
 use Rattle.std.proofs.lemmas.List.{length-replicate}
 use Rattle.pbd_world.specs.Room.{Roomed}
-use Rattle.pbd_world.specs.Lending.{overwritten, overwritten_is}
+use Rattle.pbd_world.specs.Lending.{overwritten}
 use Rattle.pbd_world.specs.Colours.{live_at}
 use Rattle.pbd_colour.specs.Held.{end_at}
 use Rattle.pbd_colour.specs.Pairs.{Coloured}
 use Rattle.pbd_colour.specs.Toward.{AreTold}
-use Rattle.pbd_colour.proofs.KeptLemmas.{InRange-as, ArePainted-as, IsColoured-read, painted_within}
+use Rattle.pbd_colour.proofs.KeptLemmas.{written, InRange-as, ArePainted-as, IsColoured-read, painted_within}
 use Rattle.pbd_colour.proofs.Marking.{before_live, all_unmarked}
 use Rattle.pbd_colour.proofs.colouring.Colouring.refill.Goals as goal
 
@@ -35,13 +35,12 @@ gather-requires c =
     ap (λ (r : Roomed (ℕ × ℕ)). length r.entries) c.copy_all.ensures in
     let flags : length c.fill.new.self.entries ≡ length c.copy_all.new.list.entries = ap (λ (r : Roomed Bool). length r.entries) c.fill.ensures
     ∙ length-replicate (length c.args.pairs.now) true ∙ sym count in
-    let written = c.paint.auto.colours ∙ ap length c.as_mut_slice-4.ensures.value in
-    let colours = overwritten_is c.fill-2.new.self.entries c.paint.new.colours written in
-    let painted = ArePainted-as c.as_slice-2.ensures c.as_slice-3.ensures (sym colours) (λ i l a. c.paint.ensures i l) in
+    let colours = written c.paint.new.colours c.paint.auto.colours c.as_mut_slice-4.ensures.value
+    (ap (λ (r : Roomed ℕ). length r.entries) c.fill-2.ensures ∙ length-replicate (length c.args.pairs.now) 0) in
+    let painted = ArePainted-as c.as_slice-2.ensures c.as_slice-3.ensures (sym colours.is) (λ i l a. c.paint.ensures i l) in
     let room = ap (λ (s : Coloured). s.room) c.self.view_is in
     rw (c.as_slice-4.ensures, c.as_slice-5.ensures) (record {
-      colours = ap length colours ∙ written ∙ ap (λ (r : Roomed ℕ). length r.entries) c.fill-2.ensures
-          ∙ length-replicate (length c.args.pairs.now) 0 ∙ sym (flags ∙ count);
+      colours = colours.long ∙ sym (flags ∙ count);
       within = painted_within c.copy_all.new.list.entries c.fill.new.self.entries _ painted flags;
       few = omega (arith, flags, count, c.requires.fits, room, c.self.invariant.few);
       numbers = omega (arith, flags, count, c.requires.fits, room, c.self.invariant.order_room);
@@ -54,18 +53,11 @@ invariant_of-self c =
     let live = ap (λ (r : Roomed Bool). r.entries) c.fill.ensures in
     let marks = ap (λ (r : Roomed Bool). r.entries) c.refill.ensures in
     let flags = ap length live ∙ length-replicate (length c.args.pairs.now) true ∙ sym (ap length pairs) in
-    let colours_size : length c.paint.new.colours ≡ length c.fill-2.new.self.entries = c.paint.auto.colours
-    ∙ ap length c.as_mut_slice-4.ensures.value in
-    let used_size : length c.paint.new.used ≡ length c.self.inside.used.entries = c.paint.auto.used
-    ∙ ap length c.as_mut_slice-3.ensures.value in
-    let sets_size : length c.tell_all.new.sets ≡ length c.self.inside.toward.entries = c.tell_all.auto.sets
-    ∙ ap length c.as_mut_slice-2.ensures.value in
-    let starts_size : length c.gather.new.starts ≡ length c.self.inside.starts.entries = c.gather.auto.starts
-    ∙ ap length c.as_mut_slice-5.ensures.value in
-    let colours = overwritten_is c.fill-2.new.self.entries c.paint.new.colours colours_size in
-    let used = overwritten_is c.self.inside.used.entries c.paint.new.used used_size in
-    let sets = overwritten_is c.self.inside.toward.entries c.tell_all.new.sets sets_size in
-    let starts = overwritten_is c.self.inside.starts.entries c.gather.new.starts starts_size in
+    let colours = written c.paint.new.colours c.paint.auto.colours c.as_mut_slice-4.ensures.value
+    (ap (λ (r : Roomed ℕ). length r.entries) c.fill-2.ensures ∙ length-replicate (length c.args.pairs.now) 0) in
+    let used = written c.paint.new.used c.paint.auto.used c.as_mut_slice-3.ensures.value c.self.invariant.used_length in
+    let sets = written c.tell_all.new.sets c.tell_all.auto.sets c.as_mut_slice-2.ensures.value c.self.invariant.toward_length in
+    let starts = written c.gather.new.starts c.gather.auto.starts c.as_mut_slice-5.ensures.value c.self.invariant.starts_length in
     record {
       few = c.self.invariant.few;
       within = omega (arith, ap length pairs, c.requires.fits, ap (λ (s : Coloured). s.room) c.self.view_is);
@@ -77,17 +69,16 @@ invariant_of-self c =
       live_length = flags;
       marks_length = ap length marks ∙ length-replicate (length c.args.pairs.now) false ∙ sym (ap length pairs);
       unmarked = all_unmarked (length c.args.pairs.now) c.refill.new.self.entries marks;
-      colours_length = ap length colours ∙ colours_size ∙ ap (λ (r : Roomed ℕ). length r.entries) c.fill-2.ensures
-          ∙ length-replicate (length c.args.pairs.now) 0 ∙ sym (ap length pairs);
-      used_length = ap length used ∙ used_size ∙ c.self.invariant.used_length;
-      toward_length = ap length sets ∙ sets_size ∙ c.self.invariant.toward_length;
-      starts_length = ap length starts ∙ starts_size ∙ c.self.invariant.starts_length;
+      colours_length = colours.long ∙ sym (ap length pairs);
+      used_length = used.long;
+      toward_length = sets.long;
+      starts_length = starts.long;
       in_range = InRange-as (sym (ap (λ (s : Coloured). s.particles) c.self.view_is)) (sym pairs) c.requires.in_range;
-      coloured = IsColoured-read c.as_slice-4.ensures c.as_slice-5.ensures starts flags
-          (ArePainted-as c.as_slice-2.ensures c.as_slice-3.ensures (sym colours) (λ i l a. c.paint.ensures i l))
+      coloured = IsColoured-read c.as_slice-4.ensures c.as_slice-5.ensures starts.is flags
+          (ArePainted-as c.as_slice-2.ensures c.as_slice-3.ensures (sym colours.is) (λ i l a. c.paint.ensures i l))
           c.gather.ensures.entries c.gather.ensures.starts;
       told = subst (λ (ps : List (ℕ × ℕ)). AreTold ps (overwritten c.self.inside.toward.entries c.tell_all.new.sets)) (sym pairs)
-          (subst (AreTold c.args.pairs.now) (sym sets) c.tell_all.ensures);
+          (subst (AreTold c.args.pairs.now) (sym sets.is) c.tell_all.ensures);
       held = record {
         items = c.hold_instead.ensures.items ∙ c.self.invariant.held.items;
         count = c.hold_instead.ensures.count ∙ c.self.invariant.held.count;

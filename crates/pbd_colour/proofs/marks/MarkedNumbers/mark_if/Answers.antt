@@ -1,7 +1,6 @@
-use Rattle.std.proofs.Common.{◌∙◌, ◌||◌, Bool, List, set, sym, ap, length, arith}
-use Rattle.pbd_world.specs.Lending.{overwritten_is}
+use Rattle.std.proofs.Common.{◌∙◌, ◌||◌, Bool, List, set, sym, ap, length, refl, arith}
 use Rattle.pbd_world.specs.Colours.{live_at}
-use Rattle.pbd_colour.proofs.KeptLemmas.{AreBlocked-as}
+use Rattle.pbd_colour.proofs.KeptLemmas.{written, AreBlocked-as}
 use Rattle.pbd_colour.proofs.Marking.{marks_in}
 use Rattle.pbd_colour.proofs.marks.MarkedNumbers.mark_if.Goals as goal
 
@@ -15,13 +14,11 @@ mark_both-requires c =
 
 pub invariant_of-self : goal.invariant_of-self
 invariant_of-self c =
-    let numbers = overwritten_is c.self.inside.numbers.entries c.mark_both.new.marks
-    (c.mark_both.auto.marks ∙ ap length c.as_mut_slice.ensures.value) in
-    let blocks = overwritten_is c.self.inside.blocks.entries c.mark_both.new.blocks
-    (c.mark_both.auto.blocks ∙ ap length c.as_mut_slice-2.ensures.value) in
-    (AreBlocked-as (sym numbers) (sym blocks) c.mark_both.ensures.blocked, c.self.invariant.1)
+    let numbers = written c.mark_both.new.marks c.mark_both.auto.marks c.as_mut_slice.ensures.value refl in
+    let blocks = written c.mark_both.new.blocks c.mark_both.auto.blocks c.as_mut_slice-2.ensures.value refl in
+    (AreBlocked-as (sym numbers.is) (sym blocks.is) c.mark_both.ensures.blocked, c.self.invariant.1)
 
 pub returns : goal.returns
-returns c = rw (← c.self.view_is) (ap (marks_in c.self.inside.numbers.room) (overwritten_is c.self.inside.numbers.entries c.mark_both.new.marks
-    (c.mark_both.auto.marks ∙ ap length c.as_mut_slice.ensures.value) ∙ c.mark_both.ensures.marks
+returns c = rw (← c.self.view_is) (ap (marks_in c.self.inside.numbers.room)
+    ((written c.mark_both.new.marks c.mark_both.auto.marks c.as_mut_slice.ensures.value refl).is ∙ c.mark_both.ensures.marks
     ∙ ap (λ (ms : List Bool). set ms c.args.k (live_at ms c.args.k || c.args.is_met)) c.as_mut_slice.ensures.value))

@@ -13,7 +13,16 @@ use Rattle.pbd_store.proofs.Fixed.{same_length}
 use Rattle.pbd_world.proofs.Rooms.{room_at}
 use Rattle.pbd_shape.proofs.Steps.{no_block, room_enough}
 use Rattle.pbd_shape.proofs.Still.{unless_cost, pushed_by_none}
+use Rattle.pbd_shape.proofs.shapes.Shapes.push_out.Goals.{At-loop-block}
 use Rattle.pbd_shape.proofs.shapes.Shapes.push_out.Goals as goal
+
+-- what the blocks so far came to
+abbrev so_far : (g : _) → At-loop-block g → Passing
+so_far g c = record { motion = motion_of c.loop-block.work.store.now c.loop-block.work.totals.now; touched = c.loop-block.touched }
+
+-- there are as many particles as before
+as_many : (g : _) (c : At-loop-block g) → length c.loop-block.work.store.now.particles ≡ length c.args.store.now.particles
+as_many g c = same_length c.loop-block.work.store.now.particles c.args.store.now.particles c.loop-block.invariant.fixed
 
 pub loop-block-init : goal.loop-block-init
 loop-block-init g c = record {
@@ -41,8 +50,7 @@ pub push_block-requires : goal.push_block-requires
 push_block-requires g c =
     let inv = c.loop-block.invariant in
     let r = c.requires in
-    let ps = c.loop-block.work.store.now.particles in
-    let len : length ps ≡ length c.args.store.now.particles = same_length ps c.args.store.now.particles inv.fixed in
+    let len = as_many g (goal.at.push_block-requires g c).At-loop-block in
     let block : c.loop-block.block < blocks_of (length c.args.store.now.particles) g.row.L =
     omega (arith, c.blocks-blocks.ensures.value, c.loop-block-test.true) in (
       omega arith,
@@ -51,7 +59,7 @@ push_block-requires g c =
         lanes_high = r.lanes_high;
         block = subst (λ (m : ℕ). c.loop-block.block < blocks_of m g.row.L) (sym len) block;
         valid = subst (λ (l : ℤ). IsTrue (are_valid_shapes l (lists_of c.args.self))) (sym inv.limit) r.shapes;
-        inside = subst (λ (l : ℤ). AreInside l ps) (sym inv.limit) inv.inside;
+        inside = subst (λ (l : ℤ). AreInside l c.loop-block.work.store.now.particles) (sym inv.limit) inv.inside;
         flags = inv.flags ∙ r.flags ∙ sym len;
         room = room_at (2 ^ 125) (room_enough (c.loop-block.block * g.row.L) (length c.args.store.now.particles)
             c.blocks-blocks.ensures.few) (inv.room (2 ^ 120) r.room);
@@ -65,14 +73,13 @@ loop-block-preserved g c =
     let limit = c.args.store.now.limit in
     let shapes = all_shapes c.args.self in
     let start = c.loop-block.block * g.row.L in
-    let now : Passing = record { motion = motion_of c.loop-block.work.store.now c.loop-block.work.totals.now; touched = c.loop-block.touched } in
+    let at = goal.at.loop-block-preserved g c in
     let then : Passing = record { motion = motion_of c.push_block.new.work.store.now c.push_block.new.work.totals.now; touched = c.push_block.new.touched } in
-    let len : length c.loop-block.work.store.now.particles ≡ length c.args.store.now.particles =
-    same_length c.loop-block.work.store.now.particles c.args.store.now.particles inv.fixed in
+    let len = as_many g at.At-loop-block in
     let begins : start < length c.args.store.now.particles =
     block_begins c.loop-block.block (length c.args.store.now.particles) g.row.L c.requires.lanes_low
     (omega (arith, c.blocks-blocks.ensures.value, c.loop-block-test.true)) in
-    let did = subst (λ (l : ℤ). pushed_from l shapes (start + g.row.L) then ≡ pushed_from l shapes start now) inv.limit
+    let did = subst (λ (l : ℤ). pushed_from l shapes (start + g.row.L) then ≡ pushed_from l shapes start (so_far g at.At-loop-block)) inv.limit
     c.in_default.ensures.outcome in
     record {
       rest = ap (λ (m : ℕ). pushed_from limit shapes m then) (next_start c.loop-block.block g.row.L) ∙ did ∙ inv.rest;
@@ -94,13 +101,9 @@ loop-block-preserved g c =
 pub returns-in-Err-clause-outcome : goal.returns-in-Err-clause-outcome
 returns-in-Err-clause-outcome g c =
     let inv = c.loop-block.invariant in
-    let start = c.loop-block.block * g.row.L in
-    let now : Passing = record {
-      motion = motion_of c.loop-block.work.store.now c.loop-block.work.totals.now;
-      touched = c.loop-block.touched;
-    } in
-    sym inv.rest ∙ subst (λ (l : ℤ). pushed_from l (all_shapes c.args.self) start now ≡ Err c.in-Err.left.element) inv.limit
-    c.in-Err.ensures.outcome
+    let now = so_far g (goal.at.returns-in-Err-clause-outcome g c).At-loop-block in
+    sym inv.rest ∙ subst (λ (l : ℤ). pushed_from l (all_shapes c.args.self) (c.loop-block.block * g.row.L) now ≡ Err c.in-Err.left.element)
+    inv.limit c.in-Err.ensures.outcome
 
 pub returns-in-Err-clause-limit : goal.returns-in-Err-clause-limit
 returns-in-Err-clause-limit g c =
@@ -133,33 +136,20 @@ returns-in-Err-clause-cost g c =
 pub returns-clause-outcome : goal.returns-clause-outcome
 returns-clause-outcome g c =
     let inv = c.loop-block.invariant in
-    let ps = c.loop-block.work.store.now.particles in
-    let start = c.loop-block.block * g.row.L in
-    let now : Passing = record {
-      motion = motion_of c.loop-block.work.store.now c.loop-block.work.totals.now;
-      touched = c.loop-block.touched;
-    } in
-    let len : length ps ≡ length c.args.store.now.particles = same_length ps c.args.store.now.particles inv.fixed in
-    let whole : length c.args.store.now.particles ≤ start =
-    all_held c.loop-block.block (length c.args.store.now.particles) g.row.L c.requires.lanes_low
+    let before = (goal.at.returns-clause-outcome g c).At-loop-block in
+    let whole = all_held c.loop-block.block (length c.args.store.now.particles) g.row.L c.requires.lanes_low
     (omega (arith, c.blocks-blocks.ensures.value, c.loop-block-test.false)) in
-    let outcome = sym inv.rest ∙ pushed_all c.args.store.now.limit (all_shapes c.args.self) start now (omega (arith, len, whole))
-    (omega (arith, inv.flags, c.requires.flags, whole)) in
+    let outcome = sym inv.rest ∙ pushed_all c.args.store.now.limit (all_shapes c.args.self) (c.loop-block.block * g.row.L)
+    (so_far g before) (omega (arith, as_many g before, whole)) (omega (arith, inv.flags, c.requires.flags, whole)) in
     search rules
 
 pub returns-clause-flags : goal.returns-clause-flags
 returns-clause-flags g c = c.loop-block.invariant.flags
 
 pub returns-clause-room : goal.returns-clause-room
-returns-clause-room g c =
-    let inv = c.loop-block.invariant in
-    let start = c.loop-block.block * g.row.L in
-    let whole : length c.args.store.now.particles ≤ start =
-    all_held c.loop-block.block (length c.args.store.now.particles) g.row.L c.requires.lanes_low
-    (omega (arith, c.blocks-blocks.ensures.value, c.loop-block-test.false)) in
-    λ n h.
+returns-clause-room g c = λ n h.
     let room : HaveRoom (n + length c.args.store.now.particles * 2 ^ 31) (ledger_of c.loop-block.work.totals.now) =
-    room_at _ (room_whole n start (length c.args.store.now.particles)) (inv.room n h) in
+    room_at _ (room_whole n (c.loop-block.block * g.row.L) (length c.args.store.now.particles)) (c.loop-block.invariant.room n h) in
     search rules
 
 pub returns-clause-cost : goal.returns-clause-cost

@@ -1,9 +1,9 @@
-use Rattle.std.proofs.Common.{◌≡◌, refl, ap, ◌∙◌, ◌+◌, ◌*◌, ◌^◌, ◌<◌, ◌≤◌, arith, unsigned_abs, Bool, List, length, get_or, false, not}
+use Rattle.std.proofs.Common.{◌≡◌, refl, ap, ◌∙◌, ◌+◌, ◌*◌, ◌^◌, ◌<◌, arith, unsigned_abs, Bool, List, length, get_or, false, not}
 use Rattle.std.proofs.Common.{◌&&◌, cond}
 use Rattle.std.proofs.lemmas.Int.{to_z-of_z}
 use Rattle.std.proofs.lemmas.List.{length-replicate, length-set}
 use Rattle.pbd_num.specs.declared.Vec3.{Vec3}
-use Rattle.pbd_num.specs.Vectors.{zero_vector, plus, minus}
+use Rattle.pbd_num.specs.Vectors.{Within, zero_vector, plus, minus}
 use Rattle.pbd_world.specs.declared.totals.Class.TheVariants as classes
 use Rattle.pbd_world.specs.Ledger.{ledger_of, added}
 use Rattle.pbd_world.specs.Particles.{particle_at}
@@ -11,23 +11,34 @@ use Rattle.pbd_world.specs.Shapes.{rubbed_away}
 use Rattle.pbd_world.proofs.Rooms.{room_at}
 use Rattle.pbd_num.proofs.Ranges.{wider}
 use Rattle.pbd_store.proofs.Places.{inside_more, within_at}
-use Rattle.pbd_shape.proofs.Steps.{has_particle, are_all, rubbing_none, rubbing_on, rubbing_all, loss_of, loss_within, part_low, part_high}
+use Rattle.pbd_shape.proofs.Steps.{HasParticle, has_particle, are_all, rubbing_none, rubbing_on, rubbing_all, loss_of, loss_within}
+use Rattle.pbd_shape.proofs.Steps.{part_low, part_high}
+use Rattle.pbd_shape.proofs.touched.Touched.rub_one_by_one.Goals.{After-place}
 use Rattle.pbd_shape.proofs.touched.Touched.rub_one_by_one.Goals as goal
 use Rattle.pbd_world.proofs.WholeLemmas.{limit_high}
+
+-- lane j has a particle
+here : (g : _) (c : After-place g) → HasParticle g.row.L c.args.loaded.block c.loop-j.j c.args.loaded.store.now.particles
+here g c = let span = c.span-span.ensures in has_particle span.first span.count span.within c.loop-j-test.true
+
+-- its place, and the place before, are in the range of the greater limit
+at_within : (g : _) (c : After-place g) → Within (2 ^ 29) c.place.result
+at_within g c = wider _ _ (2 ^ 29) (limit_high c.args.loaded.store.now.limit c.requires.limit)
+    (within_at refl (c.place.ensures ∙ c.requires.at _ (here g c).lane) (c.requires.ready.within.at _ (here g c).within))
+
+before_within : (g : _) (c : After-place g) → Within (2 ^ 29) c.place-before.result
+before_within g c = wider _ _ (2 ^ 29) (limit_high c.args.loaded.store.now.limit c.requires.limit)
+    (within_at refl (c.place-before.ensures ∙ c.requires.before _ (here g c).lane) (c.requires.ready.within.before _ (here g c).within))
 
 pub span-span-requires : goal.span-span-requires
 span-span-requires g c =
     let ready = c.requires.ready in (omega arith, (ready.lanes_low, (ready.lanes_high, ready.block)))
 
 pub place-requires : goal.place-requires
-place-requires g c =
-    let span = c.span-span.ensures in
-    let size = c.requires.ready.lanes_high in (omega (arith, size), omega (arith, span.count, c.loop-j-test.true))
+place-requires g c = (omega (arith, c.requires.ready.lanes_high), omega (arith, c.span-span.ensures.count, c.loop-j-test.true))
 
 pub place-before-requires : goal.place-before-requires
-place-before-requires g c =
-    let span = c.span-span.ensures in
-    let size = c.requires.ready.lanes_high in (omega (arith, size), omega (arith, span.count, c.loop-j-test.true))
+place-before-requires g c = (omega (arith, c.requires.ready.lanes_high), omega (arith, c.span-span.ensures.count, c.loop-j-test.true))
 
 pub loop-j-init : goal.loop-j-init
 loop-j-init g c =
@@ -44,31 +55,22 @@ is_rubbed-rubs-requires g c =
     let span = c.span-span.ensures in
     omega (arith, span.within, c.requires.ready.flags, c.loop-j-test.true)
 
--- a place, and the place before, in the range of the greater limit
 pub minus-requires : goal.minus-requires
 minus-requires g c =
-    let span = c.span-span.ensures in
-    let here = has_particle span.first span.count span.within c.loop-j-test.true in
-    let wide : unsigned_abs c.args.loaded.store.now.limit ≤ 2 ^ 61 = omega (arith, limit_high c.args.loaded.store.now.limit c.requires.limit) in
+    let lane = (goal.at.minus-requires g c).After-place in
     record {
-      first = wider _ _ (2 ^ 61) wide (within_at refl (c.place.ensures ∙ c.requires.at _ here.lane)
-          (c.requires.ready.within.at _ here.within));
-      second = wider _ _ (2 ^ 61) wide (within_at refl
-          (c.place-before.ensures ∙ c.requires.before _ here.lane) (c.requires.ready.within.before _ here.within));
+      first = wider _ (2 ^ 29) (2 ^ 61) (omega arith) (at_within g lane);
+      second = wider _ (2 ^ 29) (2 ^ 61) (omega arith) (before_within g lane);
     }
 
 pub lost_if-loss-requires : goal.lost_if-loss-requires
 lost_if-loss-requires g c =
     let f = c.ranges.friction in
-    let span = c.span-span.ensures in
-    let here = has_particle span.first span.count span.within c.loop-j-test.true in
-    let at = wider _ _ (2 ^ 29) (limit_high c.args.loaded.store.now.limit c.requires.limit)
-    (within_at refl (c.place.ensures ∙ c.requires.at _ here.lane) (c.requires.ready.within.at _ here.within))
-    in
-    let before = wider _ _ (2 ^ 29) (limit_high c.args.loaded.store.now.limit c.requires.limit)
-    (within_at refl (c.place-before.ensures ∙ c.requires.before _ here.lane)
-    (c.requires.ready.within.before _ here.within)) in
-    record { friction = simp to_z-of_z c.requires.ready.valid_friction; velocity = c.minus.ensures.size (2 ^ 29) (2 ^ 29) at before }
+    let lane = (goal.at.lost_if-loss-requires g c).After-place in
+    record {
+      friction = simp to_z-of_z c.requires.ready.valid_friction;
+      velocity = c.minus.ensures.size (2 ^ 29) (2 ^ 29) (at_within g lane) (before_within g lane);
+    }
 
 pub opposite-requires : goal.opposite-requires
 opposite-requires g c = wider _ (2 ^ 30) (2 ^ 61) (omega arith) c.lost_if-loss.ensures.size
@@ -84,12 +86,8 @@ book_if-requires g c =
 
 pub plus-requires : goal.plus-requires
 plus-requires g c =
-    let span = c.span-span.ensures in
-    let here = has_particle span.first span.count span.within c.loop-j-test.true in
     record {
-      first = wider _ _ (2 ^ 61) (omega (arith, (limit_high c.args.loaded.store.now.limit c.requires.limit)))
-          (within_at refl (c.place-before.ensures ∙ c.requires.before _ here.lane)
-          (c.requires.ready.within.before _ here.within));
+      first = wider _ (2 ^ 29) (2 ^ 61) (omega arith) (before_within g (goal.at.plus-requires g c).After-place);
       second = wider _ (2 ^ 30) (2 ^ 61) (omega arith) c.lost_if-loss.ensures.size;
     }
 
@@ -107,7 +105,7 @@ loop-j-preserved g c =
     let span = c.span-span.ensures in
     let made = c.is_rubbed-rubs.result in
     let loss = c.lost_if-loss.result in
-    let here = has_particle span.first span.count span.within c.loop-j-test.true in
+    let here = here g (goal.at.loop-j-preserved g c).After-place in
     let held = ap (λ (bs : List Bool). get_or bs j false) c.to_array-held.ensures ∙ c.requires.held _ here.lane in
     let before = c.place-before.ensures ∙ c.requires.before _ here.lane in
     let at = c.place.ensures ∙ c.requires.at _ here.lane in

@@ -1,6 +1,5 @@
 use Rattle.std.proofs.Common.{sym, ap, ◌∙◌, arith, subst, length}
 use Rattle.pbd_world.specs.World.{World, IsSound}
-use Rattle.pbd_step.specs.declared.state.Setting.{Setting}
 use Rattle.pbd_step.specs.States.{world_of, HasLinks}
 use Rattle.pbd_step.specs.Solving.{Solved}
 use Rattle.pbd_step.proofs.Keeping.{inner_scene, scene_alike, scene_pairs, scene_fixed, scene_world, taken_links, weights_taken}
@@ -28,15 +27,21 @@ take_colours-requires g c =
     c.self.invariant.links.pairs ∙ scene_pairs c.self.inside.setting c.solver.inside.setting mine other scene
     ∙ sym c.solver.invariant.links.pairs
 
+pub returns-clause-world : goal.returns-clause-world
+returns-clause-world g c =
+    c.take_over.ensures.world (record c.self.inside.setting { gravity = c.solver.inside.setting.gravity })
+    ∙ scene_world c.self.inside.setting c.solver.inside.setting c.self.inside.state c.solver.inside.run.state
+    (inner_scene c.self.view_is c.solver.view_is c.requires.one_scene)
+    ∙ ap (λ (s : Solved g.row.P.Denot). s.world) c.solver.view_is
+
 pub invariant_of-self : goal.invariant_of-self
 invariant_of-self g c =
     let mine = c.self.inside.state in
     let other = c.solver.inside.run.state in
-    let setting : Setting = record c.self.inside.setting { gravity = c.solver.inside.setting.gravity } in
     let scene = inner_scene c.self.view_is c.solver.view_is c.requires.one_scene in
-    let same = c.take_over.ensures.world setting ∙ scene_world c.self.inside.setting c.solver.inside.setting mine other scene in
     record {
-      sound = subst (λ (w : World). IsSound w) (sym same) c.solver.invariant.sound;
+      sound = subst (λ (w : World). IsSound w) (ap (λ (s : Solved g.row.P.Denot). s.world) c.solver.view_is ∙ sym (returns-clause-world g c))
+          c.solver.invariant.sound;
       weights = weights_taken c.take_over.new.state other c.take_over.ensures.weights c.take_over.ensures.particles
           c.solver.invariant.weights;
       links = coe 0 1 (i. HasLinks (length (sym c.take_over.ensures.particles i)) (sym c.take_over.ensures.links i)
@@ -44,15 +49,6 @@ invariant_of-self g c =
           (scene_particles (world_of c.self.inside.setting mine) (world_of c.solver.inside.setting other) scene)
           (scene_fixed c.self.inside.setting c.solver.inside.setting mine other scene) c.take_colours.ensures.taken);
     }
-
-pub returns-clause-world : goal.returns-clause-world
-returns-clause-world g c =
-    let mine = c.self.inside.state in
-    let other = c.solver.inside.run.state in
-    let setting : Setting = record c.self.inside.setting { gravity = c.solver.inside.setting.gravity } in
-    let scene = inner_scene c.self.view_is c.solver.view_is c.requires.one_scene in
-    c.take_over.ensures.world setting ∙ scene_world c.self.inside.setting c.solver.inside.setting mine other scene
-    ∙ ap (λ (s : Solved g.row.P.Denot). s.world) c.solver.view_is
 
 pub returns-clause-sound : goal.returns-clause-sound
 returns-clause-sound g c = (invariant_of-self g c).sound

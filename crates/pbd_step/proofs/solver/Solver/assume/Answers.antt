@@ -10,7 +10,7 @@ use Rattle.pbd_step.specs.States.{world_of, HasLinks, HaveSpace}
 use Rattle.pbd_step.specs.Solving.{Solved, AreAlike}
 use Rattle.pbd_step.proofs.Keeping.{formed_fit, scene_pairs, scene_fixed, kept_moved, weights_taken, taken_alike}
 use Rattle.pbd_step.proofs.Assuming.{Holds, held_world, judged, flipped, told_alike}
-use Rattle.pbd_step.proofs.solver.Solver.assume.Goals.{After-gravity-gravity, After-judge}
+use Rattle.pbd_step.proofs.solver.Solver.assume.Goals.{After-describe, After-gravity-gravity, After-judge, In_default}
 use Rattle.pbd_step.proofs.solver.Solver.assume.Goals as goal
 
 pub describe-requires : goal.describe-requires
@@ -33,6 +33,11 @@ describe-requires g c =
       ),
     )
 
+-- the second state has room for what the first one has
+are_alike : (g : _) (c : After-describe g) → AreAlike c.describe.new.state c.self.inside.run.state
+are_alike g c = told_alike (g.D.Described.seen c.args.described.now) c.self.inside.setting c.describe.new.state c.self.inside.run.state
+    c.describe.ensures.weights c.self.invariant.weights (c.describe.ensures.world c.self.inside.setting)
+
 pub invariant_of-self : goal.invariant_of-self
 invariant_of-self g c = record {
   sound = c.self.invariant.sound;
@@ -40,8 +45,7 @@ invariant_of-self g c = record {
   links = c.self.invariant.links;
   space = c.self.invariant.space;
   knows = c.self.invariant.knows;
-  alike = told_alike (g.D.Described.seen c.args.described.now) c.self.inside.setting c.describe.new.state c.self.inside.run.state
-      c.describe.ensures.weights c.self.invariant.weights (c.describe.ensures.world c.self.inside.setting);
+  alike = are_alike g (goal.at.invariant_of-self g c).After-describe;
 }
 
 -- the second state holds the world that is told
@@ -49,48 +53,48 @@ holds : (g : _) (c : After-gravity-gravity g) → Holds (g.D.Described.seen c.ar
     (world_of c.self.inside.setting c.self.inside.run.state) c.gravity-gravity.result
 holds g c = record { gravity_is = c.gravity-gravity.ensures; world = c.describe.ensures.world c.self.inside.setting }
 
-judged_so : (g : _) (c : After-judge g) → Holds (g.D.Described.seen c.args.described.now) c.self.inside.setting c.describe.new.state
-    (world_of c.self.inside.setting c.self.inside.run.state) c.gravity-gravity.result
+judged_so : (g : _) (c : After-judge g)
     → c.judge.result ≡ soundness (told (g.D.Described.seen c.args.described.now) (world_of c.self.inside.setting c.self.inside.run.state))
-judged_so g c h = judged c.as_slice-tracks.result.now c.numbers_of-numbers.result _ h c.as_slice-tracks.ensures c.numbers_of-numbers.ensures
-    c.judge.ensures.value
+judged_so g c = judged c.as_slice-tracks.result.now c.numbers_of-numbers.result _ (holds g (goal.at.After-judge g c).After-gravity-gravity)
+    c.as_slice-tracks.ensures c.numbers_of-numbers.ensures c.judge.ensures.value
 
 judging_cost : (g : _) (c : After-judge g) → c.judge.new.steps ≤ c.args.steps.now + 7 * length c.args.self.now.world.particles + 1
 judging_cost g c =
-    let alike = told_alike (g.D.Described.seen c.args.described.now) c.self.inside.setting c.describe.new.state c.self.inside.run.state
-    c.describe.ensures.weights c.self.invariant.weights (c.describe.ensures.world c.self.inside.setting) in
     omega (
       arith,
       c.describe.ensures.cost,
       c.judge.ensures.cost,
-      alike.particles,
+      (are_alike g (goal.at.After-judge g c).After-describe).particles,
       ap (λ (s : Solved g.row.P.Denot). length s.world.particles) c.self.view_is,
     )
 
 pub returns-in-Err-clause-exact : goal.returns-in-Err-clause-exact
 returns-in-Err-clause-exact g c =
-    let at = goal.at.returns-in-Err-clause-exact g c in
-    sym c.in-Err.is ∙ judged_so g at.After-judge (holds g at.After-gravity-gravity)
+    sym c.in-Err.is ∙ judged_so g (goal.at.returns-in-Err-clause-exact g c).After-judge
     ∙ ap (λ (s : Solved g.row.P.Denot). soundness (told (g.D.Described.seen c.args.described.now) s.world)) c.self.view_is
 
 pub returns-in-Err-clause-cost : goal.returns-in-Err-clause-cost
 returns-in-Err-clause-cost g c = judging_cost g (goal.at.returns-in-Err-clause-cost g c).After-judge
 
+-- the world that is told is sound
+is_sound : (g : _) (c : In_default g)
+    → IsSound (told (g.D.Described.seen c.args.described.now) (world_of c.self.inside.setting c.self.inside.run.state))
+is_sound g c = tested_sound (g.D.Described.seen c.args.described.now) (world_of c.self.inside.setting c.self.inside.run.state)
+    c.self.invariant.sound (sym (judged_so g (goal.at.In_default g c).After-judge) ∙ c.in_default.is)
+
 pub restore-requires : goal.restore-requires
 restore-requires g c =
-    let d = g.D.Described.seen c.args.described.now in
+    let at = goal.at.restore-requires g c in
     let mine = c.self.inside.run.state in
     let other = c.describe.new.state in
     let w = world_of c.self.inside.setting mine in
-    let h = holds g (goal.at.restore-requires g c).After-gravity-gravity in
-    let exact = judged_so g (goal.at.restore-requires g c).After-judge h in
-    let sound : IsSound (world_of (record c.self.inside.setting { gravity = c.gravity-gravity.result }) other) =
-    subst (λ (v : World). IsSound v) (sym (held_world h)) (tested_sound d w c.self.invariant.sound (sym exact ∙ c.in_default.is)) in
-    let alike : AreAlike mine other = flipped other mine (told_alike d c.self.inside.setting other mine
-    c.describe.ensures.weights c.self.invariant.weights (c.describe.ensures.world c.self.inside.setting)) in
-    let fit = formed_fit (world_of (record c.self.inside.setting { gravity = c.gravity-gravity.result }) other) sound.well_formed in
     let setting : Setting = record c.self.inside.setting { gravity = c.gravity-gravity.result } in
-    let scene : AreOfOneScene w (world_of setting other) = subst (λ (v : World). AreOfOneScene w v) (sym (held_world h)) (told_scene d w) in
+    let held = sym (held_world (holds g at.After-gravity-gravity)) in
+    let sound : IsSound (world_of setting other) = subst (λ (v : World). IsSound v) held (is_sound g at.In_default) in
+    let alike : AreAlike mine other = flipped other mine (are_alike g at.After-describe) in
+    let fit = formed_fit (world_of setting other) sound.well_formed in
+    let scene : AreOfOneScene w (world_of setting other) = subst (λ (v : World). AreOfOneScene w v) held
+    (told_scene (g.D.Described.seen c.args.described.now) w) in
     let fixed = scene_fixed c.self.inside.setting setting mine other scene in
     let pairs = c.self.invariant.links.pairs ∙ scene_pairs c.self.inside.setting setting mine other scene in
     let room : length other.links.items ≤ c.self.inside.run.colours.room = omega (arith, c.self.invariant.links.room, alike.links) in
@@ -117,17 +121,13 @@ restore-requires g c =
 
 pub invariant_of-self-2 : goal.invariant_of-self-2
 invariant_of-self-2 g c =
-    let d = g.D.Described.seen c.args.described.now in
-    let mine = c.self.inside.run.state in
+    let at = goal.at.invariant_of-self-2 g c in
     let other = c.describe.new.state in
-    let w = world_of c.self.inside.setting mine in
     let setting : Setting = record c.self.inside.setting { gravity = c.gravity-gravity.result } in
-    let h = holds g (goal.at.invariant_of-self-2 g c).After-gravity-gravity in
-    let exact = judged_so g (goal.at.invariant_of-self-2 g c).After-judge h in
-    let same = c.restore.ensures.taken.world setting ∙ held_world h in
+    let same = c.restore.ensures.taken.world setting ∙ held_world (holds g at.After-gravity-gravity) in
     let now : AreAlike other c.restore.new.state = taken_alike c.restore.ensures.taken in
     kept_moved setting other c.restore.new.state other c.restore.new.colours c.restore.new.scratch
-    (subst (λ (v : World). IsSound v) (sym same) (tested_sound d w c.self.invariant.sound (sym exact ∙ c.in_default.is)))
+    (subst (λ (v : World). IsSound v) (sym same) (is_sound g at.In_default))
     (weights_taken c.restore.new.state other c.restore.ensures.taken.weights c.restore.ensures.taken.particles c.describe.ensures.weights)
     now (record { particles = refl; limit = refl; weights = refl; links = refl })
     (subst (λ (ls : List Link). HasLinks (length other.store.particles) ls c.restore.new.colours)
@@ -136,8 +136,7 @@ invariant_of-self-2 g c =
 
 pub returns-clause-exact : goal.returns-clause-exact
 returns-clause-exact g c =
-    let at = goal.at.returns-clause-exact g c in
-    sym c.in_default.is ∙ judged_so g at.After-judge (holds g at.After-gravity-gravity)
+    sym c.in_default.is ∙ judged_so g (goal.at.returns-clause-exact g c).After-judge
     ∙ ap (λ (s : Solved g.row.P.Denot). soundness (told (g.D.Described.seen c.args.described.now) s.world)) c.self.view_is
 
 pub returns-clause-world : goal.returns-clause-world

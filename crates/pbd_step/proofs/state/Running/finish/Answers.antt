@@ -11,7 +11,7 @@ use Rattle.pbd_step.specs.declared.state.Scratch.{Scratch}
 use Rattle.pbd_step.specs.States.{world_of, now_of, HasLinks, HaveSpace, KnowsLinks}
 use Rattle.pbd_step.specs.Staying.{passing_of, AreBondsLaid, AreContactsLaid, IsGoing, StaysInStep}
 use Rattle.pbd_step.proofs.Staying.{prepared, known_laid, tools_go, tools_in_step, pass_in_step, both_in_step, pass_goes}
-use Rattle.pbd_step.proofs.Stepping.{no_flags, finished_is}
+use Rattle.pbd_step.proofs.Stepping.{finished_is}
 use Rattle.pbd_step.proofs.UnderWay.{moved_world, more_under_way, thickness_kept, thickness_of}
 use Rattle.pbd_step.proofs.Costing.{settling_same}
 use Rattle.pbd_step.proofs.state.Running.finish.Goals.{After-clear}
@@ -91,20 +91,17 @@ pub returns-in_err-project_in_passes-clause-outcome : goal.returns-in_err-projec
 returns-in_err-project_in_passes-clause-outcome g c =
     let p = err_from_is_err_and c.from_residual.result c.from_residual.ensures.1 in
     let run = c.args.self.now in
-    let flags = c.clear.ensures ∙ no_flags (length run.scratch.touched) run.state.store.particles c.requires.going.space.touched in
     rw (p.1, p.2) (finished_is (world_of c.args.setting.now run.state) run.scratch.found.pairs (now_of run.state) c.clear.new.self
-    (Err c.in_err-project_in_passes.field-0.0) flags c.in_err-project_in_passes.ensures.outcome)
+    (Err c.in_err-project_in_passes.field-0.0) c.requires.going.space.touched c.clear.ensures c.in_err-project_in_passes.ensures.outcome)
 
 pub returns-clause-outcome : goal.returns-clause-outcome
 returns-clause-outcome g c =
     let run = c.args.self.now in
-    let flags = c.clear.ensures ∙ no_flags (length run.scratch.touched) run.state.store.particles c.requires.going.space.touched in
-    let w = world_of c.args.setting.now run.state in
-    let pairs = run.scratch.found.pairs in
     let s = passing_of c.project_in_passes.new.self in
     let stays = c.project_in_passes.ensures.stays in
     let moved = moved_world c.args.setting.now run.state c.project_in_passes.new.self.state stays.moved.same stays.moved.limit in
-    finished_is w pairs (now_of run.state) c.clear.new.self (Ok s) flags c.in_ok-project_in_passes.ensures.outcome
+    finished_is (world_of c.args.setting.now run.state) run.scratch.found.pairs (now_of run.state) c.clear.new.self
+    (Ok s) c.requires.going.space.touched c.clear.ensures c.in_ok-project_in_passes.ensures.outcome
     ∙ sym (ap (λ (v : World). Ok v) (c.rub_and_tear.ensures.world
     ∙ (λ i. settled (moved i) (stays.scratch i).found.pairs (rub c.args.setting.now.friction s))))
 

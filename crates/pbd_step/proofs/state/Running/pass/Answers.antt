@@ -25,18 +25,24 @@ use Rattle.pbd_step.proofs.UnderWay.{movable, more_movable, moved_under_way, mov
 use Rattle.pbd_step.proofs.state.Running.pass.Goals.{After-project_contacts, After-push_out}
 use Rattle.pbd_step.proofs.state.Running.pass.Goals as goal
 
+-- what the links and the contacts leave
+both_stay : (g : _) (c : After-project_contacts g)
+    → StaysInPass g.P.Projector.count g.P.Projector.width c.args.self.now c.project_contacts.new.self
+both_stay g c = both_in_pass c.args.self.now c.project_links.new.self c.project_contacts.new.self
+    c.project_links.ensures.done.stays c.project_contacts.ensures.done.stays
+
 pub project_links-requires : goal.project_links-requires
 project_links-requires g c =
     let going = c.requires.going in
     let w : World = world_of c.args.setting.now c.args.self.now.state in
-    let f = formed (parts_of w) going.under_way.well_formed in
+    let links = (formed (parts_of w) going.under_way.well_formed).links in
     let ready = more_movable (2 ^ 119) (omega arith) (movable (2 ^ 118) w going.under_way) in (
       omega arith,
       (
         c.requires.lanes_low,
         (
           c.requires.lanes_high,
-          (f.links, (going.links, (going.weights, (c.requires.laid.links, ready)))),
+          (links, (going.links, (going.weights, (c.requires.laid.links, ready)))),
         ),
       ),
     )
@@ -63,13 +69,9 @@ project_contacts-requires g c =
 pub push_out-requires : goal.push_out-requires
 push_out-requires g c =
     let w : World = world_of c.args.setting.now c.args.self.now.state in
-    let f = formed (parts_of w) c.requires.going.under_way.well_formed in
-    let first = c.project_links.ensures.done.stays in
-    let second = c.project_contacts.ensures.done.stays in
-    let now = c.project_contacts.new.self.state.store in
-    let limit : now.limit ≡ w.limit = second.moved.limit ∙ first.moved.limit in
-    let whole : length now.particles ≡ length w.particles = second.moved.whole ∙ first.moved.whole in
-    let shapes : IsTrue (are_valid_shapes now.limit (lists_of c.shapes.result)) = (λ i. are_valid_shapes (limit i) (c.shapes.ensures i)) ∙ f.shapes in
+    let both = both_stay g (goal.at.push_out-requires g c).After-project_contacts in
+    let shapes : IsTrue (are_valid_shapes c.project_contacts.new.self.state.store.limit (lists_of c.shapes.result)) =
+    (λ i. are_valid_shapes (both.moved.limit i) (c.shapes.ensures i)) ∙ (formed (parts_of w) c.requires.going.under_way.well_formed).shapes in
     let ready = c.in_default-project_contacts.ensures.done.movable (2 ^ 118 + 2 ^ 60)
     (c.in_default.ensures.done.movable (2 ^ 118) (movable (2 ^ 118) w c.requires.going.under_way)) in
     let room : HaveRoom (2 ^ 120) (ledger_of c.project_contacts.new.self.state.totals) = room_at (2 ^ 120) (omega arith) ready.room in (
@@ -78,7 +80,7 @@ push_out-requires g c =
         c.requires.lanes_low,
         (
           c.requires.lanes_high,
-          (shapes, (ready.inside, (second.flags ∙ first.flags ∙ c.requires.going.space.touched ∙ sym whole, room))),
+          (shapes, (ready.inside, (both.flags ∙ c.requires.going.space.touched ∙ sym both.moved.whole, room))),
         ),
       ),
     )
@@ -154,8 +156,8 @@ returns-clause-outcome g c =
 -- ---- what stays
 
 pub returns-in-Err-project_contacts-clause-stays : goal.returns-in-Err-project_contacts-clause-stays
-returns-in-Err-project_contacts-clause-stays g c = both_in_pass c.args.self.now c.project_links.new.self c.project_contacts.new.self
-    c.project_links.ensures.done.stays c.project_contacts.ensures.done.stays
+returns-in-Err-project_contacts-clause-stays g c =
+    both_stay g (goal.at.returns-in-Err-project_contacts-clause-stays g c).After-project_contacts
 
 -- what all three parts leave
 all_stays : (g : _) (c : After-push_out g) → StaysInPass g.P.Projector.count g.P.Projector.width c.args.self.now
@@ -167,7 +169,7 @@ all_stays g c =
     let two = c.project_contacts.new.self in
     let state = record two.state { store = c.push_out.new.store; totals = c.push_out.new.totals } in
     both_in_pass c.args.self.now two (record two { state = state; scratch = record two.scratch { touched = c.push_out.new.touched } })
-    (both_in_pass c.args.self.now c.project_links.new.self two c.project_links.ensures.done.stays c.project_contacts.ensures.done.stays)
+    (both_stay g (goal.at.After-push_out g c).After-project_contacts)
     (part_in_pass two state c.push_out.new.touched two.projector refl c.push_out.ensures.limit c.push_out.ensures.copies
     c.push_out.ensures.fixed c.push_out.ensures.flags (omega arith) refl)
 
@@ -179,27 +181,20 @@ returns-clause-stays g c = all_stays g (goal.at.returns-clause-stays g c).After-
 
 pub returns-clause-under_way : goal.returns-clause-under_way
 returns-clause-under_way g c = λ n u.
+    let at = goal.at.returns-clause-under_way g c in
+    let both = both_stay g at.After-project_contacts in
+    let all = all_stays g at.After-push_out in
     let old : State g.row.L = c.args.self.now.state in
-    let two = c.project_contacts.new.self.state in
-    let new : State g.row.L = record two { store = c.push_out.new.store; totals = c.push_out.new.totals } in
+    let new : State g.row.L = record c.project_contacts.new.self.state { store = c.push_out.new.store; totals = c.push_out.new.totals } in
     let w : World = world_of c.args.setting.now old in
-    let f = formed (parts_of w) u.well_formed in
-    let now = c.push_out.new.store in
-    let first = c.project_links.ensures.done.stays in
-    let second = c.project_contacts.ensures.done.stays in
-    let limit : two.store.limit ≡ w.limit = second.moved.limit ∙ first.moved.limit in
-    let fixed = second.fixed ∙ first.fixed in
-    let whole : length two.store.particles ≡ length w.particles = second.moved.whole ∙ first.moved.whole in
-    let same = ap (λ (s : State g.row.L). record s { store = new.store; totals = new.totals })
-    (second.moved.same ∙ ap (λ (s : State g.row.L). record s { store = two.store; totals = two.totals }) first.moved.same) in
-    let inside : AreInside w.limit now.particles = subst (λ (l : ℤ). AreInside l now.particles) limit c.in_default-push_out.ensures.inside
-    in
+    let inside : AreInside w.limit new.store.particles =
+    subst (λ (l : ℤ). AreInside l new.store.particles) both.moved.limit c.in_default-push_out.ensures.inside in
     let ready = c.in_default-project_contacts.ensures.done.movable (n + 2 ^ 60) (c.in_default.ensures.done.movable n (movable n w u)) in
     let room : HaveRoom (n + 2 ^ 62) (ledger_of new.totals) =
-    room_at (n + 2 ^ 62) (omega (arith, whole, particles_few w f))
+    room_at (n + 2 ^ 62) (omega (arith, both.moved.whole, particles_few w (formed (parts_of w) u.well_formed)))
     (c.in_default-push_out.ensures.room (n + 2 ^ 60 + 2 ^ 60) ready.room) in
-    subst (λ (v : World). IsUnderWay (n + 2 ^ 62) v) (sym (moved_world c.args.setting.now old new same (c.push_out.ensures.limit ∙ limit)))
-    (moved_under_way n (n + 2 ^ 62) w now.particles (ledger_of new.totals) u (c.push_out.ensures.fixed ∙ fixed) inside room)
+    subst (λ (v : World). IsUnderWay (n + 2 ^ 62) v) (sym (moved_world c.args.setting.now old new all.moved.same all.moved.limit))
+    (moved_under_way n (n + 2 ^ 62) w new.store.particles (ledger_of new.totals) u all.fixed inside room)
 
 pub returns-clause-handed : goal.returns-clause-handed
 returns-clause-handed g c =

@@ -1,4 +1,4 @@
-use Rattle.std.proofs.Common.{◌∙◌, ◌≡◌, ◌+◌, ◌^◌, ℕ, List, length, refl, sym, ap, arith, subst}
+use Rattle.std.proofs.Common.{◌∙◌, ◌≡◌, ◌+◌, ◌^◌, ℕ, List, length, refl, sym, ap, arith, subst, w64, FitsSigned}
 use Rattle.std.specs.List.Sorted.{IsStrictlyIncreasing}
 use Rattle.std.proofs.lemmas.Int.{to_z-of_z}
 use Rattle.pbd_num.proofs.Sizes.{fits}
@@ -23,13 +23,33 @@ use Rattle.pbd_step.proofs.Mild.{formed_within, formed_friction}
 use Rattle.pbd_step.proofs.Settling.{let_go_tears, torn_live, torn_coloured, still_many, torn_fixed, fixed_numbers, none_go}
 use Rattle.pbd_step.proofs.Costing.{rubs_less}
 use Rattle.pbd_step.proofs.Weighing.{settled_weights}
+use Rattle.pbd_step.proofs.state.Running.rub_and_tear.Goals.{Start, After-as_slice-torn, After-tear}
 use Rattle.pbd_step.proofs.state.Running.rub_and_tear.Goals as goal
+
+friction_fits : (g : _) (c : Start g) → FitsSigned w64 c.args.setting.now.friction
+friction_fits g c =
+    let w = world_of c.args.setting.now c.args.self.now.state in
+    fits _ (omega (arith, (numbers_of w (formed (parts_of w) c.requires.going.under_way.well_formed)).friction_high))
+
+-- the numbers that are let go are those of the torn links
+numbers_torn : (g : _) (c : After-as_slice-torn g)
+    → c.as_slice-torn.result.now ≡ torn_numbers c.rub.new.store.particles c.args.self.now.state.links.items
+numbers_torn g c = c.as_slice-torn.ensures ∙ ap (λ (o : Roomed ℕ). o.entries) c.torn.ensures.numbers
+    ∙ ap (torn_numbers c.rub.new.store.particles) c.deref.ensures.value
+
+-- so they are torn
+links_torn : (g : _) (c : After-tear g) → c.tear.new.links.items ≡ tear c.rub.new.store.particles c.args.self.now.state.links.items
+links_torn g c =
+    let links = c.args.self.now.state.links.items in
+    let after = c.tear.new.links.items in
+    let_go_tears c.rub.new.store.particles links after (subst (λ (ns : List ℕ). LetGo ns links after)
+    (numbers_torn g (goal.at.After-tear g c).After-as_slice-torn) c.tear.ensures.links)
 
 pub rub-requires : goal.rub-requires
 rub-requires g c =
     let w = world_of c.args.setting.now c.args.self.now.state in
     let whole = c.requires.going.under_way.well_formed in
-    let small = fits c.args.setting.now.friction (omega (arith, (numbers_of w (formed (parts_of w) whole)).friction_high)) in (
+    let small = friction_fits g (goal.at.rub-requires g c).Start in (
       omega arith,
       (
         c.requires.lanes_low,
@@ -75,25 +95,15 @@ pub tear-requires-clause-live : goal.tear-requires-clause-live
 tear-requires-clause-live g c =
     let ps = c.rub.new.store.particles in
     let links = c.args.self.now.state.links.items in
-    let numbers : c.as_slice-torn.result.now ≡ torn_numbers ps links = c.as_slice-torn.ensures
-    ∙ ap (λ (o : Roomed ℕ). o.entries) c.torn.ensures.numbers ∙ ap (torn_numbers ps) c.deref.ensures.value in
-    rw (numbers, c.requires.going.links.live) (λ k lt. torn_live ps links k (torn_ascend ps links) lt)
+    rw (numbers_torn g (goal.at.tear-requires-clause-live g c).After-as_slice-torn, c.requires.going.links.live)
+    (λ k lt. torn_live ps links k (torn_ascend ps links) lt)
 
 pub returns-clause-world : goal.returns-clause-world
 returns-clause-world g c =
-    let w = world_of c.args.setting.now c.args.self.now.state in
-    let ps = c.rub.new.store.particles in
-    let links = c.args.self.now.state.links.items in
-    let after = c.tear.new.links.items in
-    let small = fits c.args.setting.now.friction (omega (
-      arith,
-      (numbers_of w (formed (parts_of w) c.requires.going.under_way.well_formed)).friction_high,
-    )) in
+    let at = goal.at.returns-clause-world g c in
+    let small = friction_fits g at.Start in
     let motion = simp to_z-of_z at c.rub.ensures.outcome in
-    let numbers : c.as_slice-torn.result.now ≡ torn_numbers ps links = c.as_slice-torn.ensures
-    ∙ ap (λ (o : Roomed ℕ). o.entries) c.torn.ensures.numbers ∙ ap (torn_numbers ps) c.deref.ensures.value in
-    let tears = let_go_tears ps links after (subst (λ (ns : List ℕ). LetGo ns links after) numbers c.tear.ensures.links) in
-    let torn = tears ∙ (λ k. tear (motion k).particles links) in
+    let torn = links_torn g at.After-tear ∙ (λ k. tear (motion k).particles c.args.self.now.state.links.items) in
     λ k. record (world_of c.args.setting.now c.args.self.now.state) {
       limit = c.rub.ensures.limit k;
       steps = c.args.self.now.state.steps + 1;
@@ -105,16 +115,11 @@ returns-clause-world g c =
 
 pub returns-clause-links : goal.returns-clause-links
 returns-clause-links g c =
-    let ps = c.rub.new.store.particles in
-    let links = c.args.self.now.state.links.items in
-    let after = c.tear.new.links.items in
-    let numbers : c.as_slice-torn.result.now ≡ torn_numbers ps links = c.as_slice-torn.ensures
-    ∙ ap (λ (o : Roomed ℕ). o.entries) c.torn.ensures.numbers ∙ ap (torn_numbers ps) c.deref.ensures.value in
-    let tears = let_go_tears ps links after (subst (λ (ns : List ℕ). LetGo ns links after) numbers c.tear.ensures.links) in
+    let at = goal.at.returns-clause-links g c in
     let coloured = c.tear.ensures.colours ∙ ap (λ (ns : List ℕ).
-    record c.args.self.now.colours { live = dropped ns c.args.self.now.colours.live }) numbers in
-    torn_coloured (length c.args.self.now.state.store.particles) ps links after c.args.self.now.colours c.tear.new.colours
-    c.requires.going.links tears coloured
+    record c.args.self.now.colours { live = dropped ns c.args.self.now.colours.live }) (numbers_torn g at.After-as_slice-torn) in
+    torn_coloured (length c.args.self.now.state.store.particles) c.rub.new.store.particles c.args.self.now.state.links.items
+    c.tear.new.links.items c.args.self.now.colours c.tear.new.colours c.requires.going.links (links_torn g at.After-tear) coloured
 
 pub returns-clause-stays : goal.returns-clause-stays
 returns-clause-stays g c =
@@ -125,13 +130,10 @@ returns-clause-stays g c =
     let links = run.state.links.items in
     let after = c.tear.new.links.items in
     let many = still_many ps run.state.store.particles c.rub.ensures.settled in
-    let numbers : c.as_slice-torn.result.now ≡ torn_numbers ps links = c.as_slice-torn.ensures
-    ∙ ap (λ (o : Roomed ℕ). o.entries) c.torn.ensures.numbers ∙ ap (torn_numbers ps) c.deref.ensures.value in
-    let tears = let_go_tears ps links after (subst (λ (ns : List ℕ). LetGo ns links after) numbers c.tear.ensures.links) in
-    let fixed = torn_fixed ps links after tears in
+    let fixed = torn_fixed ps links after (links_torn g (goal.at.returns-clause-stays g c).After-tear) in
     record {
       alike = record {
-        particles = still_many c.rub.new.store.particles c.args.self.now.state.store.particles c.rub.ensures.settled;
+        particles = many;
         limit = c.rub.ensures.limit;
         weights = refl;
         links = c.tear.ensures.links.whole;
@@ -165,10 +167,7 @@ returns-clause-stays g c =
 pub returns-clause-cost : goal.returns-clause-cost
 returns-clause-cost g c =
     let w = world_of c.args.setting.now c.args.self.now.state in
-    let small = fits c.args.setting.now.friction (omega (
-      arith,
-      (numbers_of w (formed (parts_of w) c.requires.going.under_way.well_formed)).friction_high,
-    )) in
+    let small = friction_fits g (goal.at.returns-clause-cost g c).Start in
     let rubbed = simp to_z-of_z at c.rub.ensures.cost in
     let links : tearable_count c.deref.result.now ≡ tearable_count w.links =
     ap (λ (ls : List Link). tearable_count ls) c.deref.ensures.value in

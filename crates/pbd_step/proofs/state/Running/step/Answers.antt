@@ -2,7 +2,7 @@ use Rattle.std.proofs.Common.{◌≡◌, ◌+◌, ◌-◌, ◌*◌, ◌^◌, min
 use Rattle.std.proofs.lemmas.Result.{err_from_is_err_and}
 use Rattle.pbd_world.specs.Step.{step}
 use Rattle.pbd_world.specs.Ledger.{ledger_of}
-use Rattle.pbd_world.specs.Work.{found_in}
+use Rattle.pbd_world.specs.Work.{finding_work, found_in}
 use Rattle.pbd_world.specs.World.{live_count}
 use Rattle.pbd_world.proofs.WorkLemmas.{step_is, step_goes_on}
 use Rattle.pbd_step.specs.declared.state.State.{State}
@@ -14,6 +14,7 @@ use Rattle.pbd_step.proofs.Staying.{move_in_step, tools_in_step, both_in_step, b
 use Rattle.pbd_step.proofs.Stepping.{step_leaves, step_crowds, step_finishes, answers_so}
 use Rattle.pbd_step.proofs.UnderWay.{moved_world, more_under_way}
 use Rattle.pbd_step.proofs.Costing.{finding_same, finishing_same, found_begun}
+use Rattle.pbd_step.proofs.state.Running.step.Goals.{After-find, After-predict}
 use Rattle.pbd_step.proofs.state.Running.step.Goals as goal
 use Rattle.pbd_world.proofs.KeepingOn.{on_both}
 
@@ -82,8 +83,9 @@ returns-clause-outcome g c =
 pub returns-in_err-predict-clause-stays : goal.returns-in_err-predict-clause-stays
 returns-in_err-predict-clause-stays g c = move_in_step c.args.self.now c.predict.new.state c.predict.ensures.moved
 
-pub returns-in_err-find-clause-stays : goal.returns-in_err-find-clause-stays
-returns-in_err-find-clause-stays g c =
+-- what the beginning and the search for contacts leave
+begun_stays : (g : _) (c : After-find g) → StaysInStep g.P.Projector.count g.P.Projector.width c.args.self.now c.find.new.self
+begun_stays g c =
     let run = c.args.self.now in
     let start : Running g.row.L g.row.P.Denot = record run { state = c.predict.new.state } in
     let found = c.find.new.self.scratch.found in
@@ -93,18 +95,12 @@ returns-in_err-find-clause-stays g c =
     (tools_in_step start (record start.scratch { found = found }) (refound start.scratch found c.find.ensures.particles)
     (known_with start.state start.scratch found)))
 
+pub returns-in_err-find-clause-stays : goal.returns-in_err-find-clause-stays
+returns-in_err-find-clause-stays g c = begun_stays g (goal.at.returns-in_err-find-clause-stays g c).After-find
+
 pub returns-clause-stays : goal.returns-clause-stays
-returns-clause-stays g c =
-    let run = c.args.self.now in
-    let start : Running g.row.L g.row.P.Denot = record run { state = c.predict.new.state } in
-    let found = c.find.new.self.scratch.found in
-    both_in_step run c.find.new.self c.finish.new.self
-    (subst (λ (r : Running g.row.L g.row.P.Denot). StaysInStep g.P.Projector.count g.P.Projector.width run r) (sym c.find.ensures.stays)
-    (both_in_step run start (record start { scratch = record start.scratch { found = found } })
-    (move_in_step run start.state c.predict.ensures.moved)
-    (tools_in_step start (record start.scratch { found = found }) (refound start.scratch found c.find.ensures.particles)
-    (known_with start.state start.scratch found))))
-    c.finish.ensures.stays
+returns-clause-stays g c = both_in_step c.args.self.now c.find.new.self c.finish.new.self
+    (begun_stays g (goal.at.returns-clause-stays g c).After-find) c.finish.ensures.stays
 
 pub returns-clause-links : goal.returns-clause-links
 returns-clause-links g c =
@@ -131,19 +127,25 @@ returns-in_err-predict-clause-cost g c =
     let w = world_of c.args.setting.now c.args.self.now.state in
     omega (arith, c.predict.ensures.cost, step_is g.row.L (g.P.Projector.width c.args.self.now.projector) w (found_in w))
 
-pub returns-in_err-find-clause-cost : goal.returns-in_err-find-clause-cost
-returns-in_err-find-clause-cost g c =
+-- the search costs after the beginning what it costs before
+finding_cost : (g : _) (c : After-predict g)
+    → finding_work (world_of c.args.setting.now c.predict.new.state) ≡ finding_work (world_of c.args.setting.now c.args.self.now.state)
+finding_cost g c =
     let setting = c.args.setting.now in
-    let w = world_of setting c.args.self.now.state in
+    let before = c.args.self.now.state in
     let then = c.predict.new.state in
     let moved = c.predict.ensures.moved in
-    let found = finding_same g.row.L w (world_of setting then) then.store.particles (ledger_of then.totals)
-    (moved_world setting c.args.self.now.state then moved.same moved.limit) moved.whole in
+    finding_same g.row.L (world_of setting before) (world_of setting then) then.store.particles (ledger_of then.totals)
+    (moved_world setting before then moved.same moved.limit) moved.whole
+
+pub returns-in_err-find-clause-cost : goal.returns-in_err-find-clause-cost
+returns-in_err-find-clause-cost g c =
+    let w = world_of c.args.setting.now c.args.self.now.state in
     omega (
       arith,
       c.predict.ensures.cost,
       c.find.ensures.cost,
-      found,
+      finding_cost g (goal.at.returns-in_err-find-clause-cost g c).After-predict,
       step_is g.row.L (g.P.Projector.width c.args.self.now.projector) w (found_in w),
     )
 
@@ -155,7 +157,6 @@ returns-clause-cost g c =
     let w = world_of setting run.state in
     let then = c.predict.new.state in
     let moved = c.predict.ensures.moved in
-    let goes = moved_world setting run.state then moved.same moved.limit in
     let begun : c.find.new.self.state ≡ then = ap (λ (r : Running g.row.L g.row.P.Denot). r.state) c.find.ensures.stays in
     let width : lanes c.find.new.self.projector ≡ lanes run.projector =
     ap (λ (r : Running g.row.L g.row.P.Denot). lanes r.projector) c.find.ensures.stays in
@@ -163,15 +164,14 @@ returns-clause-cost g c =
     let same = found_begun w (now_of then) then.links.items c.in_ok-predict.ensures.outcome links in
     let pairs : c.find.new.self.scratch.found.pairs ≡ found_in w = c.in_ok-find.ensures.found ∙ sym same in
     let few : length (found_in w) ≤ 262144 = omega (arith, c.in_ok-find.ensures.few, ap (λ (ps : List (ℕ × ℕ)). length ps) same) in
-    let found = finding_same g.row.L w (world_of setting then) then.store.particles (ledger_of then.totals) goes moved.whole in
     let finished = finishing_same g.row.L w (world_of setting c.find.new.self.state) then.store.particles (ledger_of then.totals)
-    (ap (λ (s : State g.row.L). world_of setting s) begun ∙ goes) moved.whole width pairs in
+    (ap (λ (s : State g.row.L). world_of setting s) begun ∙ moved_world setting run.state then moved.same moved.limit) moved.whole width pairs in
     omega (
       arith,
       c.predict.ensures.cost,
       c.find.ensures.cost,
       c.finish.ensures.cost,
-      found,
+      finding_cost g (goal.at.returns-clause-cost g c).After-predict,
       finished,
       step_goes_on g.row.L (lanes run.projector) w (found_in w) few,
     )

@@ -77,10 +77,8 @@ pub returns-in-Err-clause-outcome : goal.returns-in-Err-clause-outcome
 returns-in-Err-clause-outcome g c =
     let w = world_of c.args.setting.now c.args.self.now in
     let air = is_air g (goal.at.returns-in-Err-clause-outcome g c).After-forces_within-forces in
-    let ps = c.args.self.now.store.particles in
-    let inside = formed_within w c.requires.sound.well_formed in
-    predicted_out w c.in-Err.element (sound_air w c.requires.sound).low inside.at
-    (subst (λ (a : Forces). LeavesFirst a ps c.in-Err.element) air c.in-Err.ensures.outcome)
+    predicted_out w c.in-Err.element (sound_air w c.requires.sound).low (formed_within w c.requires.sound.well_formed).at
+    (subst (λ (a : Forces). LeavesFirst a c.args.self.now.store.particles c.in-Err.element) air c.in-Err.ensures.outcome)
 
 pub returns-in-Err-clause-moved : goal.returns-in-Err-clause-moved
 returns-in-Err-clause-moved g c = flown_moved g c.args.self.now.totals (goal.at.returns-in-Err-clause-moved g c).After-fly

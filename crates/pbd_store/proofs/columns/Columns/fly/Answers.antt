@@ -6,27 +6,28 @@ use Rattle.pbd_world.specs.declared.parts.Particle.{Particle}
 use Rattle.pbd_store.proofs.Listing.{count_is, row_is, place_is}
 use Rattle.pbd_store.proofs.Landed.{flown_padded, flown_listed, flown_summed}
 use Rattle.pbd_store.proofs.columns.Columns.fly.Goals as goal
-use Rattle.pbd_store.proofs.columns.Columns.fly.Goals.{After-fly}
+use Rattle.pbd_store.proofs.columns.Columns.fly.Goals.{After-deref, After-fly}
+
+-- the flags that were lent
+flags_long : (g : _) (c : After-deref g) → length (take c.self.inside.count c.deref.result.now) ≡ c.self.inside.count
+flags_long g c =
+    let flags = ap (λ (bs : List Bool). length bs) c.deref.ensures.value in
+    length-take-le c.self.inside.count c.deref.result.now (omega (arith, c.self.invariant.padded.flags, flags))
 
 pub fly-requires-clause-at : goal.fly-requires-clause-at
 fly-requires-clause-at g c =
-    let flags = ap (λ (bs : List Bool). length bs) c.deref.ensures.value in
-    let long = length-take-le c.self.inside.count c.deref.result.now (omega (arith, c.self.invariant.padded.flags, flags)) in
+    let long = flags_long g (goal.at.fly-requires-clause-at g c).After-deref in
     λ j lt. subst (λ (v : Vec3). Within (2 ^ 29) v) (place_is c.self.invariant.padded c.self.view_is j)
     (c.requires.at j (omega (arith, long, count_is c.self.invariant.padded c.self.view_is)))
 
 pub fly-requires-clause-before : goal.fly-requires-clause-before
 fly-requires-clause-before g c =
-    let flags = ap (λ (bs : List Bool). length bs) c.deref.ensures.value in
-    let long = length-take-le c.self.inside.count c.deref.result.now (omega (arith, c.self.invariant.padded.flags, flags)) in
+    let long = flags_long g (goal.at.fly-requires-clause-before g c).After-deref in
     λ j lt. subst (λ (v : Vec3). Within (2 ^ 29) v) (ap (λ (p : Particle). p.before) (row_is c.self.invariant.padded c.self.view_is j))
     (c.requires.before j (omega (arith, long, count_is c.self.invariant.padded c.self.view_is)))
 
--- the flags that were lent
 long : (g : _) (c : After-fly g) → length (take c.self.inside.count c.deref.result.now) ≡ c.self.inside.count
-long g c =
-    let flags = ap (λ (bs : List Bool). length bs) c.deref.ensures.value in
-    length-take-le c.self.inside.count c.deref.result.now (omega (arith, c.self.invariant.padded.flags, flags))
+long g c = flags_long g (goal.at.returns-clause-particles g c).After-deref
 
 cut_at : (flags : List Bool) (n j : ℕ) → j < n → is_set (take n flags) j ≡ is_set flags j
 cut_at flags zero j lt = absurd (omega arith)
