@@ -6,13 +6,13 @@ use Rattle.pbd_world.specs.declared.parts.Particle.{Particle}
 use Rattle.pbd_world.specs.declared.bond.Bond.{Bond}
 use Rattle.pbd_world.specs.Ledger.{Ledger, Entry, booked}
 use Rattle.pbd_world.specs.Particles.{Motion, particle_at}
-use Rattle.pbd_world.specs.Bonds.{projected, one, correction_at}
+use Rattle.pbd_world.specs.Bonds.{projected, corrected, correction_at}
 use Rattle.pbd_store.specs.Moving.{fixed_parts}
 use Rattle.pbd_pair.specs.Bonds.{IsBond}
 use Rattle.pbd_pair.specs.Projecting.{ShareNone}
 use Rattle.pbd_pair.specs.Moves.{settled}
 use Rattle.pbd_pair.proofs.Correcting.{leaves_by, placed_by, booked_by, corrected_stays, corrected_leaves, fixed-placed_by}
-use Rattle.pbd_pair.proofs.OneByOne.{turn_on, turn_out, one_is}
+use Rattle.pbd_pair.proofs.OneByOne.{turn_on, turn_out}
 use Rattle.pbd_pair.proofs.Together.{Together, together_none, together_more, correction_same, held_same}
 
 -- bond k of a chunk
@@ -50,10 +50,9 @@ module _ (limit : ℤ) (bond : ℕ → Bond) (block : List ℕ) (m : Motion) (bo
       let ledger : booked_by (particle_at r.qs b.a).held (particle_at r.qs b.b).held b (correction_at limit r.qs b) t ≡ t' = held_same limit
       (nth bond block) (length block) m.particles bonds apart j r.qs t h r.together ∙ sym et in
       let then : Motion = record { particles = placed_by r.qs b c; totals = t' } in
-      let did : one limit bond (get_or block j 0) now ≡ Ok then
-      = one_is limit bond (get_or block j 0) b now (Ok then) refl refl (corrected_stays
-      (get_or block j 0) b (correction_at limit r.qs b) now goes
-      ∙ (λ i. Ok (record { particles = placed_by r.qs b (same_c i); totals = ledger i }))) in
+      let did : corrected (get_or block j 0) b (correction_at limit r.qs b) now ≡ Ok then
+      = corrected_stays (get_or block j 0) b (correction_at limit r.qs b) now goes
+      ∙ (λ i. Ok (record { particles = placed_by r.qs b (same_c i); totals = ledger i })) in
       let next : j + 1 ≡ suc j = omega arith in
       record {
         qs = placed_by r.qs b c;
@@ -61,7 +60,7 @@ module _ (limit : ℤ) (bond : ℕ → Bond) (block : List ℕ) (m : Motion) (bo
             (together_more limit (nth bond block)
             (length block) m.particles bonds apart j r.qs h r.together);
         same = subst (λ (k : ℕ). projected limit bond (drop k block) then ≡ projected limit bond (drop j block) now) next
-            (turn_on limit bond block j h now then did) ∙ r.same;
+            (turn_on limit bond block j h b now then refl refl did) ∙ r.same;
         fixed = fixed-placed_by r.qs b c ∙ r.fixed;
       }
 
@@ -91,9 +90,8 @@ module _ (limit : ℤ) (bond : ℕ → Bond) (block : List ℕ) (m : Motion) (bo
       let now : Motion = record { particles = r.qs; totals = settled entries j m.totals } in
       let same_c : correction_at limit r.qs b ≡ correction_at limit m.particles b = correction_same limit (nth bond block)
       (length block) m.particles bonds apart j r.qs h r.together in
-      sym r.same ∙ turn_out limit bond block j h now (get_or block j 0)
-      (one_is limit bond (get_or block j 0) b now (Err (get_or block j 0)) refl refl
-      (corrected_leaves (get_or block j 0) b (correction_at limit r.qs b) now (ap leaves_by same_c ∙ goes)))
+      sym r.same ∙ turn_out limit bond block j h b now (get_or block j 0) refl refl
+      (corrected_leaves (get_or block j 0) b (correction_at limit r.qs b) now (ap leaves_by same_c ∙ goes))
 
   -- all of them
   pub reached_all : (t : Ledger) (r : Reached limit bond block (length block) m t)

@@ -207,13 +207,6 @@ module _ {found : Found} {s : Stored} {t : Totals} (can : CanProject 128 found.c
       flags = λ j p. (moved.each j p).forth_flag;
     })
 
-    -- once the ends have moved by the rows
-    pub moved_done : {new : List Particle} {u : Ledger}
-        → EachMoved asked s.limit found.pairs.first.now found.pairs.second.now (opposites_in back) (ways_in forth) s.particles new
-        → u ≡ settled (λ k. entries_at s.particles (B k)) (length numbers) (ledger_of t)
-        → AreDone s.limit (bond_of found.chunk.bonds) numbers (motion_of s t) new u
-    moved_done told books = side_done first_moved second_moved told books
-
     pub moved_leaves : {k : ℕ} → LeavesAt k asked s.limit found.pairs.first.now found.pairs.second.now (opposites_in back)
         (ways_in forth) s.particles
         → projected_block found.chunk.bonds numbers s t ≡ Err (get_or numbers k 0)
@@ -243,30 +236,38 @@ module _ {found : Found} {s : Stored} {t : Totals} (can : CanProject 128 found.c
         ≡ ((particle_at s.particles (B j).a).held || (particle_at s.particles (B j).b).held)
     beside_is j p = λ i. first_flag can is.first is.second is.between j p i || second_flag can is.first is.second is.between j p i
 
-    pub moved_books : (class : Class) {pins own : Vec3} (u : Ledger) → ((n : ℕ) → class_of (bond_of found.chunk.bonds n) ≡ class)
+    -- once the ends have moved by the rows, and one sum is booked after another
+    pub apart_done : (class : Class) {pins own : Vec3} {new : List Particle} {u v : Ledger}
+        → ((n : ℕ) → class_of (bond_of found.chunk.bonds n) ≡ class)
         → pins ≡ moved_below (λ j. moved_if (beside j) (row_in back j) (row_in forth j)) (length numbers)
         → own ≡ moved_below (λ j. moved_if (not (beside j)) (row_in back j) (row_in forth j)) (length numbers)
-        → added (added u classes.Pin pins) class own ≡ settled (λ k. entries_at s.particles (B k)) (length numbers) u
-    moved_books class {pins} {own} u kind pins_are own_are =
+        → EachMoved asked s.limit found.pairs.first.now found.pairs.second.now (opposites_in back) (ways_in forth) s.particles new
+        → u ≡ added (ledger_of t) classes.Pin pins → v ≡ added u class own
+        → AreDone s.limit (bond_of found.chunk.bonds) numbers (motion_of s t) new v
+    apart_done class {own = own} kind pins_are own_are told pins_booked own_booked =
         let held : ℕ → Bool = λ k. (particle_at s.particles (B k).a).held in
         let held_second : ℕ → Bool = λ k. (particle_at s.particles (B k).b).held in
         let pins_told = pins_are ∙ moved_same _ (λ k. together_if (held k || held_second k) (shift_at k)) (length numbers)
         (λ k p. λ i. cond (beside_is k p i) (plus (first_moved k p i) (second_moved k p i)) zero_vector) in
         let own_told = own_are ∙ moved_same _ (λ k. together_if (not (held k || held_second k)) (shift_at k)) (length numbers)
         (λ k p. λ i. cond (not (beside_is k p i)) (plus (first_moved k p i) (second_moved k p i)) zero_vector) in
-        (λ i. added (added u classes.Pin (pins_told i)) class (own_told i))
-        ∙ sym (counted_all u class held held_second shift_at (length numbers) (λ k p. held_stay k))
-        ∙ settled_same (λ k. entries_of (held k) (held_second k) class (shift_at k)) (λ k. entries_at s.particles (B k)) (length numbers) u
-        (λ k p v. ap (λ (x : Class). booked v (entries_of (held k) (held_second k) x (shift_at k))) (sym (kind (get_or numbers k 0))))
+        side_done first_moved second_moved told (own_booked ∙ ap (λ (x : Ledger). added x class own) pins_booked
+        ∙ (λ i. added (added (ledger_of t) classes.Pin (pins_told i)) class (own_told i))
+        ∙ sym (counted_all (ledger_of t) class held held_second shift_at (length numbers) (λ k p. held_stay k))
+        ∙ settled_same (λ k. entries_of (held k) (held_second k) class (shift_at k)) (λ k. entries_at s.particles (B k)) (length numbers)
+        (ledger_of t)
+        (λ k p v. ap (λ (x : Class). booked v (entries_of (held k) (held_second k) x (shift_at k))) (sym (kind (get_or numbers k 0)))))
 
     -- where the sums are nothing
-    pub nothing_books : (u : Ledger) → zero_vector ≡ moved_below (λ j. moved_if (beside j) (row_in back j) (row_in forth j)) (length numbers)
+    pub alike_done : {new : List Particle}
+        → zero_vector ≡ moved_below (λ j. moved_if (beside j) (row_in back j) (row_in forth j)) (length numbers)
         → zero_vector ≡ moved_below (λ j. moved_if (not (beside j)) (row_in back j) (row_in forth j)) (length numbers)
-        → u ≡ settled (λ k. entries_at s.particles (B k)) (length numbers) u
-    nothing_books u pins own =
+        → EachMoved asked s.limit found.pairs.first.now found.pairs.second.now (opposites_in back) (ways_in forth) s.particles new
+        → AreDone s.limit (bond_of found.chunk.bonds) numbers (motion_of s t) new (ledger_of t)
+    alike_done pins own told =
         let class = class_all found.chunk.bonds in
-        sym (added_nothing (added u classes.Pin zero_vector) class ∙ added_nothing u classes.Pin)
-        ∙ moved_books class u (class_is found.chunk.bonds) pins own
+        apart_done class (class_is found.chunk.bonds) pins own told refl
+        (sym (added_nothing (added (ledger_of t) classes.Pin zero_vector) class ∙ added_nothing (ledger_of t) classes.Pin))
 
 -- rows without flags tell the moves
 pub near_tried : {bond : ℕ → Bond} {numbers : List ℕ} {l : Lying} {rows : List Row} → AreTried bond numbers l rows

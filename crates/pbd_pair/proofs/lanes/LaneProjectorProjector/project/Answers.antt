@@ -1,4 +1,4 @@
-use Rattle.std.proofs.Common.{◌≡◌, ℕ, ◌-◌, ◌*◌, ◌/◌, ◌%◌, ◌^◌, rules, refl, ◌≤◌, min, length, List, ap, sym, ◌∙◌, arith, subst, ℤ, Option}
+use Rattle.std.proofs.Common.{◌≡◌, ℕ, ◌+◌, ◌-◌, ◌/◌, ◌^◌, rules, refl, ◌<◌, ◌≤◌, min, length, List, ap, sym, ◌∙◌, arith, subst, ℤ, Option}
 use Rattle.std.proofs.lemmas.Bool.{eqb-false, eqb-true}
 use Rattle.std.proofs.lemmas.List.{nil_from_length}
 use Rattle.pbd_world.specs.Bonds.{projected}
@@ -13,15 +13,32 @@ use Rattle.pbd_world.proofs.Rooms.{room_at}
 use Rattle.pbd_store.proofs.Fixed.{same_length}
 use Rattle.pbd_pair.proofs.OneByOne.{block_done, block_leaves}
 use Rattle.pbd_pair.proofs.Batches.{back_batch, front_batch, fewer_blocks, weigh_same, whole_chunk, some_chunk}
+use Rattle.pbd_pair.proofs.lanes.LaneProjectorProjector.project.Goals.{After-min-size}
 use Rattle.pbd_pair.proofs.lanes.LaneProjectorProjector.project.Goals as goal
+
+-- how many bonds are taken of those that are left
+record Taken (n k lanes : ℕ) : Type 0 where
+  some : 0 < k
+  few : k ≤ n
+  fewer : blocks_of (n - k) lanes + blocks_of k lanes ≤ blocks_of n lanes
+
+takes : (g : _) (c : After-min-size g) → Taken (length c.steps_on.rest.now) c.min-size.result g.row.L
+takes g c =
+    let n = length c.steps_on.rest.now in
+    let ne = eqb-false n 0 (sym c.is_empty-in-steps_on.ensures ∙ c.steps_on-test.true) in
+    record {
+      some = omega (arith, c.min-size.ensures, ne, some_chunk g.row.L c.requires.lanes_low c.requires.lanes_high);
+      few = omega (arith, c.min-size.ensures);
+      fewer = fewer_blocks n c.min-size.result (128 / g.row.L) g.row.L c.requires.lanes_low
+          (c.min-size.ensures ∙ ap (min n) (sym (whole_chunk g.row.L)));
+    }
 
 pub steps_on-init : goal.steps_on-init
 steps_on-init g c = record {
   bound = subst (λ (z : ℤ). IsBound z) c.limit_of.ensures.value c.limit_of.ensures.bound;
   batch = c.requires.batch;
   laid = subst (λ (o : Option Laid). SuitIf o (bond_of c.args.bonds) c.args.batch.now c.args.store.now.particles)
-      (sym c.columns-columns.ensures)
-      c.requires.columns;
+      (sym c.columns-columns.ensures) c.requires.columns;
   inside = c.requires.inside;
   weights = c.requires.weights;
   room = room_at _ (omega arith) c.requires.room;
@@ -37,12 +54,8 @@ steps_on-init g c = record {
 
 pub returns-in-Err-clause-outcome : goal.returns-in-Err-clause-outcome
 returns-in-Err-clause-outcome g c =
-    let bond = bond_of c.args.bonds in
-    let limit = c.steps_on.store.limit in
-    let m = motion_of c.steps_on.store c.steps_on.totals in
-    let front = ap (λ (b : List ℕ). projected limit bond b m) (sym c.split_at.ensures.front) in
-    sym c.steps_on.invariant.same ∙ block_leaves limit bond c.min-size.result c.steps_on.rest.now m c.in-Err.left.element
-    (front ∙ c.in-Err.ensures.outcome)
+    sym c.steps_on.invariant.same ∙ block_leaves c.steps_on.store.limit (bond_of c.args.bonds) c.min-size.result c.steps_on.rest.now
+    (motion_of c.steps_on.store c.steps_on.totals) c.in-Err.left.element c.split_at.ensures.front c.in-Err.ensures.outcome
 
 pub returns-in-Err-clause-limit : goal.returns-in-Err-clause-limit
 returns-in-Err-clause-limit g c = c.in-Err.ensures.limit ∙ c.steps_on.invariant.limit
@@ -60,8 +73,7 @@ steps_on-preserved g c =
     let k = c.min-size.result in
     let rest = c.steps_on.rest.now in
     let inv = c.steps_on.invariant in
-    let size : k ≡ min (length rest) (128 / g.row.L * g.row.L) = c.min-size.ensures ∙ ap (min (length rest)) (sym (whole_chunk g.row.L)) in
-    let fits : k ≤ length rest = omega arith in
+    let taken = takes g (goal.at.steps_on-preserved g c).After-min-size in
     let sound = c.in_default.ensures.sound in
     let fixed = c.project.ensures.fixed in
     let same_limit : limit ≡ c.project.new.store.limit = sym c.project.ensures.limit in
@@ -69,17 +81,13 @@ steps_on-preserved g c =
     let back = c.split_at.ensures.back in
     let m = motion_of c.steps_on.store c.steps_on.totals in
     let then = motion_of c.project.new.store c.project.new.totals in
-    let front = ap (λ (b : List ℕ). projected limit bond b m) (sym c.split_at.ensures.front) in
-    let fewer = fewer_blocks (length rest) k (128 / g.row.L) g.row.L c.requires.lanes_low size in
     let left : length c.split_at.result.1.now ≡ length rest - k = omega (arith, c.split_at.ensures.back_len) in
     record {
       bound = subst (λ (z : ℤ). IsBound z) same_limit inv.bound;
       batch = subst (λ (l : ℤ). IsBatch l (length c.project.new.store.particles) c.args.bonds c.split_at.result.1.now) same_limit
-          (rw (whole, back)
-          (back_batch limit (length c.steps_on.store.particles) c.args.bonds rest k fits inv.batch));
+          (rw (whole, back) (back_batch limit (length c.steps_on.store.particles) c.args.bonds rest k taken.few inv.batch));
       laid = suit_same bond c.split_at.result.1.now c.steps_on.store.particles c.project.new.store.particles c.split_columns.result.1
-          (sym fixed)
-          (subst (λ (xs : List ℕ). SuitIf c.split_columns.result.1 bond xs c.steps_on.store.particles) (sym back)
+          (sym fixed) (subst (λ (xs : List ℕ). SuitIf c.split_columns.result.1 bond xs c.steps_on.store.particles) (sym back)
           (suit_back bond rest c.steps_on.store.particles k c.steps_on.columns c.split_columns.result.0 c.split_columns.result.1
           c.split_columns.ensures inv.laid));
       inside = subst (λ (l : ℤ). AreInside l c.project.new.store.particles) same_limit sound.inside;
@@ -89,14 +97,14 @@ steps_on-preserved g c =
           (sound.room _ (inv.grows n h));
       shorter = omega (arith, inv.shorter, left);
       same = (λ i. projected (sym same_limit i) bond (back i) then) ∙ block_done limit bond k rest m then
-          (front ∙ c.in_default.ensures.outcome) ∙ inv.same;
+          c.split_at.ensures.front c.in_default.ensures.outcome ∙ inv.same;
       limit = c.project.ensures.limit ∙ inv.limit;
       copies = c.project.ensures.copies ∙ inv.copies;
       fixed = fixed ∙ inv.fixed;
       counted = inv.counted;
       cost = rw left (omega (
         arith,
-        fewer,
+        taken.fewer,
         inv.cost,
         c.project.ensures.cost,
         ap (λ (x : ℕ). blocks_of x g.row.L) c.split_at.ensures.front_len,
@@ -105,18 +113,15 @@ steps_on-preserved g c =
 
 pub steps_on-smaller : goal.steps_on-smaller
 steps_on-smaller g c =
-    let rest = c.steps_on.rest.now in
-    let ne = eqb-false (length rest) 0 (sym c.is_empty-in-steps_on.ensures ∙ c.steps_on-test.true) in
-    omega (arith, c.split_at.ensures.back_len, c.min-size.ensures, ne, some_chunk g.row.L c.requires.lanes_low c.requires.lanes_high)
+    let taken = takes g (goal.at.steps_on-smaller g c).After-min-size in
+    omega (arith, c.split_at.ensures.back_len, taken.some, taken.few)
 
 pub project-requires : goal.project-requires
 project-requires g c =
     let rest = c.steps_on.rest.now in
     let k = c.min-size.result in
     let inv = c.steps_on.invariant in
-    let size : k ≡ min (length rest) (128 - 128 % g.row.L) = c.min-size.ensures in
-    let fits : k ≤ length rest = omega arith in
-    let ne = eqb-false (length rest) 0 (sym c.is_empty-in-steps_on.ensures ∙ c.steps_on-test.true) in
+    let taken = takes g (goal.at.project-requires g c).After-min-size in
     let front : length c.split_at.result.0.now ≡ k = c.split_at.ensures.front_len in (
       omega arith,
       (
@@ -126,10 +131,10 @@ project-requires g c =
           (
             record {
               bound = inv.bound;
-              short = omega (arith, front);
-              some = omega (arith, front, ne, some_chunk g.row.L c.requires.lanes_low c.requires.lanes_high);
+              short = omega (arith, front, c.min-size.ensures);
+              some = omega (arith, front, taken.some);
               batch = rw c.split_at.ensures.front (front_batch c.steps_on.store.limit
-                  (length c.steps_on.store.particles) c.args.bonds rest k fits inv.batch);
+                  (length c.steps_on.store.particles) c.args.bonds rest k taken.few inv.batch);
               inside = inv.inside;
               weights = inv.weights;
               room = room_at (2 ^ 124) (search rules) inv.room;
@@ -145,12 +150,9 @@ project-requires g c =
 
 pub returns-in-Err-clause-cost : goal.returns-in-Err-clause-cost
 returns-in-Err-clause-cost g c =
-    let rest = c.steps_on.rest.now in
-    let size : c.min-size.result ≡ min (length rest) (128 / g.row.L * g.row.L) = c.min-size.ensures
-    ∙ ap (min (length rest)) (sym (whole_chunk g.row.L)) in
     omega (
       arith,
-      fewer_blocks (length rest) c.min-size.result (128 / g.row.L) g.row.L c.requires.lanes_low size,
+      (takes g (goal.at.returns-in-Err-clause-cost g c).After-min-size).fewer,
       c.steps_on.invariant.cost,
       c.in-Err.ensures.cost,
       ap (λ (x : ℕ). blocks_of x g.row.L) c.split_at.ensures.front_len,
@@ -189,7 +191,5 @@ returns-clause-cost g c = omega (arith, c.steps_on.invariant.cost)
 
 pub split_columns-requires : goal.split_columns-requires
 split_columns-requires g c =
-    let rest = c.steps_on.rest.now in
-    let size : c.min-size.result ≡ min (length rest) (128 - 128 % g.row.L) = c.min-size.ensures in
-    can_split (bond_of c.args.bonds) rest c.steps_on.store.particles c.min-size.result c.steps_on.columns
-    (omega arith) c.steps_on.invariant.laid
+    can_split (bond_of c.args.bonds) c.steps_on.rest.now c.steps_on.store.particles c.min-size.result c.steps_on.columns
+    (omega (arith, c.min-size.ensures)) c.steps_on.invariant.laid

@@ -1,4 +1,4 @@
-use Rattle.std.proofs.Common.{◌^◌, arith, rules, refl, ◌∙◌, sym, subst, ℕ, ℤ, List, get_or, Result, Ok, Err}
+use Rattle.std.proofs.Common.{◌^◌, arith, rules, refl, ◌∙◌, sym, subst, ℕ, ℤ, List, Result}
 use Rattle.std.proofs.lemmas.List.{at_drop_all}
 use Rattle.pbd_world.specs.Particles.{Motion}
 use Rattle.pbd_world.specs.Bonds.{projected}
@@ -6,23 +6,19 @@ use Rattle.pbd_pair.specs.Bonds.{bond_of, IsBond}
 use Rattle.pbd_store.specs.Moving.{motion_of, AreInside}
 use Rattle.pbd_world.proofs.Rooms.{room_at}
 use Rattle.pbd_store.proofs.Fixed.{same_length}
-use Rattle.pbd_pair.proofs.OneByOne.{turn_on, turn_out, one_is}
+use Rattle.pbd_pair.proofs.OneByOne.{turn_on, turn_out}
 use Rattle.pbd_pair.proofs.scalar.ScalarProjector.project.Goals as goal
 
 pub loop-n-preserved : goal.loop-n-preserved
 loop-n-preserved g c =
     let inv = c.loop-n.invariant in
-    let limit = c.args.store.now.limit in
-    let bond = bond_of c.args.bonds in
-    let n = get_or c.args.batch.now c.loop-n.n-index 0 in
-    let now = motion_of c.loop-n.store c.loop-n.totals in
-    let then = motion_of c.project.new.store c.project.new.totals in
-    let did = one_is limit bond n c.get-bond.result now (Ok then) inv.limit c.get-bond.ensures c.in_default.ensures.outcome in
     record {
       room = room_at _ (omega arith) (c.project.ensures.room _ inv.room);
       grows = λ n h. room_at _ (omega arith) (c.project.ensures.room _ (inv.grows n h));
       inside = subst (λ (l : ℤ). AreInside l c.project.new.store.particles) inv.limit c.project.ensures.inside;
-      same = turn_on limit bond c.args.batch.now c.loop-n.n-index (omega arith) now then did ∙ inv.same;
+      same = turn_on c.args.store.now.limit (bond_of c.args.bonds) c.args.batch.now c.loop-n.n-index (omega arith) c.get-bond.result
+          (motion_of c.loop-n.store c.loop-n.totals) (motion_of c.project.new.store c.project.new.totals) inv.limit c.get-bond.ensures
+          c.in_default.ensures.outcome ∙ inv.same;
       limit = c.project.ensures.limit ∙ inv.limit;
       copies = c.project.ensures.copies ∙ inv.copies;
       fixed = c.project.ensures.fixed ∙ inv.fixed;
@@ -32,12 +28,8 @@ loop-n-preserved g c =
 pub returns-in-Err-clause-outcome : goal.returns-in-Err-clause-outcome
 returns-in-Err-clause-outcome g c =
     let inv = c.loop-n.invariant in
-    let limit = c.args.store.now.limit in
-    let bond = bond_of c.args.bonds in
-    let n = get_or c.args.batch.now c.loop-n.n-index 0 in
-    let now = motion_of c.loop-n.store c.loop-n.totals in
-    let did = one_is limit bond n c.get-bond.result now (Err c.in-Err.left.element) inv.limit c.get-bond.ensures c.in-Err.ensures.outcome in
-    sym inv.same ∙ turn_out limit bond c.args.batch.now c.loop-n.n-index (omega arith) now c.in-Err.left.element did
+    sym inv.same ∙ turn_out c.args.store.now.limit (bond_of c.args.bonds) c.args.batch.now c.loop-n.n-index (omega arith) c.get-bond.result
+    (motion_of c.loop-n.store c.loop-n.totals) c.in-Err.left.element inv.limit c.get-bond.ensures c.in-Err.ensures.outcome
 
 pub loop-n-init : goal.loop-n-init
 loop-n-init g c = record {

@@ -1,4 +1,4 @@
-use Rattle.std.proofs.Common.{rules, ◌≡◌, refl, sym, ap, ◌∙◌, ℕ, ◌+◌, ◌-◌, ◌*◌, ◌^◌, min, ◌<◌, ◌≤◌, arith, subst, ℤ, length}
+use Rattle.std.proofs.Common.{rules, ◌≡◌, refl, sym, ap, ◌∙◌, ℕ, ◌+◌, ◌-◌, ◌*◌, ◌^◌, min, ◌<◌, arith, subst, ℤ, length}
 use Rattle.std.proofs.lemmas.Int.{to_z-of_z}
 use Rattle.pbd_num.specs.Vectors.{zero_vector}
 use Rattle.pbd_world.specs.declared.parts.Particle.{Particle}
@@ -13,10 +13,15 @@ use Rattle.pbd_store.proofs.Fixed.{same_length_by}
 use Rattle.pbd_world.proofs.Rooms.{room_at}
 use Rattle.pbd_shape.proofs.Steps.{no_block, room_enough}
 use Rattle.pbd_shape.proofs.Still.{rubbed_by_none}
+use Rattle.pbd_shape.proofs.touched.Touched.rub.Goals.{At-loop-block}
 use Rattle.pbd_shape.proofs.touched.Touched.rub.Goals as goal
 
 abbrev settled : Particle → Particle
 settled p = record p { before = zero_vector }
+
+-- there are as many particles as before
+as_many : (g : _) (c : At-loop-block g) → length c.loop-block.work.store.now.particles ≡ length c.args.store.now.particles
+as_many g c = same_length_by settled c.loop-block.work.store.now.particles c.args.store.now.particles c.loop-block.invariant.settled
 
 pub loop-block-init : goal.loop-block-init
 loop-block-init g c =
@@ -47,8 +52,7 @@ rub_block-requires g c =
     let f = c.ranges.friction in
     let inv = c.loop-block.invariant in
     let r = c.requires in
-    let ps = c.loop-block.work.store.now.particles in
-    let len : length ps ≡ length c.args.store.now.particles = same_length_by settled ps c.args.store.now.particles inv.settled in
+    let len = as_many g (goal.at.rub_block-requires g c).At-loop-block in
     let block : c.loop-block.block < blocks_of (length c.args.store.now.particles) g.row.L =
     omega (arith, c.blocks-blocks.ensures.value, c.loop-block-test.true) in (
       omega arith,
@@ -58,7 +62,7 @@ rub_block-requires g c =
         block = subst (λ (m : ℕ). c.loop-block.block < blocks_of m g.row.L) (sym len) block;
         valid_friction = simp to_z-of_z r.friction;
         flags = r.flags ∙ sym len;
-        within = subst (λ (l : ℤ). AreWithin l ps) (sym inv.limit) inv.within;
+        within = subst (λ (l : ℤ). AreWithin l c.loop-block.work.store.now.particles) (sym inv.limit) inv.within;
         room = room_at (2 ^ 125) (room_enough (c.loop-block.block * g.row.L) (length c.args.store.now.particles)
             c.blocks-blocks.ensures.few) (inv.room (2 ^ 120) r.room);
       },
@@ -71,8 +75,7 @@ loop-block-preserved g c =
     let e = c.rub_block.ensures in
     let start = c.loop-block.block * g.row.L in
     let then : Passing = record { motion = motion_of c.rub_block.new.work.store.now c.rub_block.new.work.totals.now; touched = c.args.self.now } in
-    let len : length c.loop-block.work.store.now.particles ≡ length c.args.store.now.particles =
-    same_length_by settled c.loop-block.work.store.now.particles c.args.store.now.particles inv.settled in
+    let len = as_many g (goal.at.loop-block-preserved g c).At-loop-block in
     let begins : start < length c.args.store.now.particles =
     block_begins c.loop-block.block (length c.args.store.now.particles) g.row.L c.requires.lanes_low
     (omega (arith, c.blocks-blocks.ensures.value, c.loop-block-test.true)) in
@@ -98,30 +101,21 @@ pub returns-clause-outcome : goal.returns-clause-outcome
 returns-clause-outcome g c =
     let f = c.ranges.friction in
     let inv = c.loop-block.invariant in
-    let ps = c.loop-block.work.store.now.particles in
-    let start = c.loop-block.block * g.row.L in
     let now : Passing = record {
       motion = motion_of c.loop-block.work.store.now c.loop-block.work.totals.now;
       touched = c.args.self.now;
     } in
-    let len : length ps ≡ length c.args.store.now.particles = same_length_by settled ps c.args.store.now.particles inv.settled in
-    let whole : length c.args.store.now.particles ≤ start =
-    all_held c.loop-block.block (length c.args.store.now.particles) g.row.L c.requires.lanes_low
+    let len = as_many g (goal.at.returns-clause-outcome g c).At-loop-block in
+    let whole = all_held c.loop-block.block (length c.args.store.now.particles) g.row.L c.requires.lanes_low
     (omega (arith, c.blocks-blocks.ensures.value, c.loop-block-test.false)) in
     let rest = simp to_z-of_z at inv.rest in
-    let outcome = sym (rubbed_all c.args.friction start now (omega (arith, len, whole))) ∙ rest in
+    let outcome = sym (rubbed_all c.args.friction (c.loop-block.block * g.row.L) now (omega (arith, len, whole))) ∙ rest in
     search rules
 
 pub returns-clause-room : goal.returns-clause-room
-returns-clause-room g c =
-    let inv = c.loop-block.invariant in
-    let start = c.loop-block.block * g.row.L in
-    let whole : length c.args.store.now.particles ≤ start =
-    all_held c.loop-block.block (length c.args.store.now.particles) g.row.L c.requires.lanes_low
-    (omega (arith, c.blocks-blocks.ensures.value, c.loop-block-test.false)) in
-    λ n h.
+returns-clause-room g c = λ n h.
     let room : HaveRoom (n + length c.args.store.now.particles * 2 ^ 31) (ledger_of c.loop-block.work.totals.now) =
-    room_at _ (room_whole n start (length c.args.store.now.particles)) (inv.room n h) in
+    room_at _ (room_whole n (c.loop-block.block * g.row.L) (length c.args.store.now.particles)) (c.loop-block.invariant.room n h) in
     search rules
 
 pub returns-then-not-rubs_any-clause-within : goal.returns-then-not-rubs_any-clause-within
