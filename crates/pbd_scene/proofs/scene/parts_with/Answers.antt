@@ -1,15 +1,21 @@
 use Rattle.std.proofs.Common.{ap, w64, FitsSigned}
 use Rattle.std.proofs.lemmas.Int.{to_z-of_z}
 use Rattle.std.proofs.lemmas.Result.{IfOk-at_ok}
-use Rattle.toml.specs.View.{table_view}
 use Rattle.pbd_world.specs.declared.parts.Parts.{Parts}
 use Rattle.pbd_mesh.proofs.Facts.{limit_bounds}
 use Rattle.pbd_scene.specs.Calls.{from_tables}
 use Rattle.pbd_scene.proofs.Bounds.{limit_clauses}
 use Rattle.pbd_scene.proofs.Reading.{stops}
-use Rattle.pbd_scene.proofs.Validity.{tables_fit}
+use Rattle.pbd_scene.proofs.Validity.{tables_fit, TablesFit}
 use Rattle.pbd_scene.proofs.Parted.{cloths_fit, ropes_fit, meshes_room, meshed_now, places_within}
+use Rattle.pbd_scene.proofs.scene.parts_with.Goals.{In_ok-tables}
 use Rattle.pbd_scene.proofs.scene.parts_with.Goals as goal
+
+-- what the tables hold fits
+tables_are_fit : (c : In_ok-tables) → TablesFit c.args.limit c.in_ok-tables.tables
+tables_are_fit c =
+    let fits = c.ranges.limit in
+    tables_fit c.args.limit _ c.in_ok-tables.tables (limit_bounds c.args.limit c.requires).0 (simp to_z-of_z at c.in_ok-tables.ensures)
 
 pub tables_of-requires : goal.tables_of-requires
 tables_of-requires c =
@@ -21,8 +27,7 @@ add_meshes-meshed-requires c =
     let fits = c.ranges.limit in
     let its = simp to_z-of_z at (ap (λ (p : Parts). p.limit) c.plain_parts-parts.ensures) in
     let room : FitsSigned w64 c.plain_parts-parts.result.limit = rw its fits in
-    let is = simp to_z-of_z at c.in_ok-tables.ensures in
-    let fit = tables_fit c.args.limit (table_view c.args.members.now) c.in_ok-tables.tables (limit_bounds c.args.limit c.requires).0 is in
+    let fit = tables_are_fit (goal.at.add_meshes-meshed-requires c).In_ok-tables in
     record {
       limit = rw its c.requires;
       cloths = cloths_fit c.args.limit _ c.in_ok-tables.tables c.as_slice.result.now c.as_slice.ensures its fit;
@@ -35,8 +40,7 @@ add_meshes-meshed-requires c =
 pub with_entries-requires : goal.with_entries-requires
 with_entries-requires c =
     let fits = c.ranges.limit in
-    let is = simp to_z-of_z at c.in_ok-tables.ensures in
-    let fit = tables_fit c.args.limit (table_view c.args.members.now) c.in_ok-tables.tables (limit_bounds c.args.limit c.requires).0 is in
+    let fit = tables_are_fit (goal.at.with_entries-requires c).In_ok-tables in
     let grown = simp (to_z-of_z, c.plain_parts-parts.ensures) at (IfOk-at_ok _ c.in-Ok.is c.add_meshes-meshed.ensures) in
     let meshed = meshed_now c.args.limit c.args.settings.now c.in_ok-tables.tables c.add_meshes-meshed.new.parts c.as_slice.result.now
     c.as_slice-2.result.now grown c.as_slice.ensures c.as_slice-2.ensures c.requires fit in
