@@ -1,4 +1,4 @@
-use Rattle.std.proofs.Common.{◌≡◌, refl, rules, w64, FitsSigned, ℕ, ◌+◌, List, [], ◌∷◌, ◌++◌, length, append_assoc, arith}
+use Rattle.std.proofs.Common.{◌≡◌, refl, rules, w64, FitsSigned, ℕ, ◌+◌, ◌≤◌, List, [], ◌∷◌, ◌++◌, length, append_assoc, arith}
 use Rattle.std.specs.Prelude.{ℤ}
 use Rattle.std.proofs.lemmas.Int.{ints, to_z-of_z}
 use Rattle.std.proofs.lemmas.List.{length_push}
@@ -6,8 +6,12 @@ use Rattle.pbd_session.specs.Replaying.{axis}
 use Rattle.std.specs.Fmt.{signed_decimal}
 use Rattle.pbd_run.proofs.line.push_axes.Goals as goal
 
+-- how much longer a space makes a line, and how much a number and the space before it
 one_longer : (old new : List ℕ) → new ≡ old ++ 32 ∷ [] → length new ≡ length old + 1
 one_longer old new is = rw is (length_push old 32)
+
+longer : (old spaced new : List ℕ) → spaced ≡ old ++ 32 ∷ [] → length new ≤ length spaced + 20 → length new ≤ length old + 21
+longer old spaced new is most = omega (arith, most, one_longer old spaced is)
 
 grouped : (l x y z : List ℕ) → (((((l ++ 32 ∷ []) ++ x) ++ 32 ∷ []) ++ y) ++ 32 ∷ []) ++ z ≡ l ++ 32 ∷ (x ++ 32 ∷ (y ++ 32 ∷ z))
 grouped l x y z = simp append_assoc refl
@@ -27,26 +31,32 @@ returns-clause-bytes c =
 
 pub push-requires-3 : goal.push-requires-3
 push-requires-3 c =
-    let a = one_longer _ _ c.push.ensures in
-    let b = one_longer _ _ c.push-2.ensures in
-    omega (arith, c.requires, a, c.push_signed.ensures.len, b, c.push_signed-2.ensures.len)
+    omega (
+      arith,
+      c.requires,
+      longer _ _ _ c.push.ensures c.push_signed.ensures.len,
+      longer _ _ _ c.push-2.ensures c.push_signed-2.ensures.len,
+    )
 
 pub push_signed-requires-2 : goal.push_signed-requires-2
 push_signed-requires-2 c =
-    let a = one_longer _ _ c.push.ensures in
-    let b = one_longer _ _ c.push-2.ensures in
-    omega (arith, c.requires, a, c.push_signed.ensures.len, b)
+    omega (arith, c.requires, longer _ _ _ c.push.ensures c.push_signed.ensures.len, one_longer _ _ c.push-2.ensures)
 
 pub push_signed-requires-3 : goal.push_signed-requires-3
 push_signed-requires-3 c =
-    let a = one_longer _ _ c.push.ensures in
-    let b = one_longer _ _ c.push-2.ensures in
-    let d = one_longer _ _ c.push-3.ensures in
-    omega (arith, c.requires, a, c.push_signed.ensures.len, b, c.push_signed-2.ensures.len, d)
+    omega (
+      arith,
+      c.requires,
+      longer _ _ _ c.push.ensures c.push_signed.ensures.len,
+      longer _ _ _ c.push-2.ensures c.push_signed-2.ensures.len,
+      one_longer _ _ c.push-3.ensures,
+    )
 
 pub returns-clause-len : goal.returns-clause-len
 returns-clause-len c =
-    let a = one_longer _ _ c.push.ensures in
-    let b = one_longer _ _ c.push-2.ensures in
-    let d = one_longer _ _ c.push-3.ensures in
-    omega (arith, a, c.push_signed.ensures.len, b, c.push_signed-2.ensures.len, d, c.push_signed-3.ensures.len)
+    omega (
+      arith,
+      longer _ _ _ c.push.ensures c.push_signed.ensures.len,
+      longer _ _ _ c.push-2.ensures c.push_signed-2.ensures.len,
+      longer _ _ _ c.push-3.ensures c.push_signed-3.ensures.len,
+    )
